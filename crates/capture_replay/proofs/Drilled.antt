@@ -23,6 +23,7 @@ use Rattle.replay_lines.specs.declared.printing.PrintError.TheVariants.{OutputFa
 use Rattle.drill_day.specs.Drill.{drill_names, drill_heart, drill_events, drill_capture, kinds_of}
 use Rattle.replay_lines.specs.ReplayLines.{drill_lines}
 use Rattle.capture_replay.specs.Replay.{Played, config_with, nothing, end_name, numbers_left}
+use Rattle.capture_replay.specs.Replay.{WereAdded}
 use Rattle.capture_replay.specs.Lived.{IsLived, LivesOn}
 use Rattle.capture_replay.specs.Drills.{IsDrilled, Drills, lines_of_drill}
 use Rattle.capture_replay.specs.Rounds.{moment_after}
@@ -30,6 +31,7 @@ use Rattle.capture_replay.specs.Stops.{may_end}
 use Rattle.drop_taps.proofs.Showing.{seen_none}
 use Rattle.capture_replay.proofs.EachLine.{all_bounded}
 use Rattle.capture_replay.proofs.Shown.{are_shown}
+use Rattle.capture_replay.proofs.Added.{both_added, none_added}
 
 -- the disk is unborn
 pub nothing_stands : (names : Names) → IsJournal names [] []
@@ -42,7 +44,28 @@ pub undrilled : {T : Type 0} (state : T → TapState) (first count : ℕ) (taps 
 undrilled state first count taps old (Ok value) is = absurd is
 undrilled state first count taps old (Err error) is = subst
     (λ (e : PrintError). Drills state first count taps taps (Err e) old old) (sym is)
-    ([], seen_none state taps, refl)
+    ([], seen_none state taps, none_added drill_names [] [] (nothing_stands drill_names), refl)
+
+-- its life was broken off, or what it left could not be read
+pub unread : {T : Type 0} (state : T → TapState) (first count : ℕ) (seen now : List T)
+    (config : Config) (names : Names) (heart : ℕ) (bytes : List ℕ) (old : Option (List ℕ))
+    (told : Result ⊤ PrintError) (more : List Entry) → config ≡ config_with names heart None
+    → names ≡ drill_names → bytes ≡ [] → HaveSeen state seen now more
+    → ((before : List Entry) → IsJournal config.names before bytes
+    → WereAdded config.names before more)
+    → IsErrAnd told (λ e. e ≡ NoMemory) → Drills state first count seen now told old old
+unread state first count seen now config names heart bytes old (Ok value) more is of_names none
+    saw added failed = absurd failed
+unread state first count seen now config names heart bytes old (Err error) more is of_names none
+    saw added failed = subst
+    (λ (e : PrintError). Drills state first count seen now (Err e) old old) (sym failed) (
+      more,
+      saw,
+      subst (λ (n : Names). WereAdded n [] more) (ap (λ (k : Config). k.names) is ∙ of_names)
+          (added [] (subst (λ (b : List ℕ). IsJournal config.names [] b) (sym none)
+          (nothing_stands config.names))),
+      refl,
+    )
 
 module _ {T : Type 0} (state : T → TapState) (first count : ℕ) (seen now : List T)
     (client venue : Option (List WireCall)) (end : LifeEnd) (image : List ℕ) (config : Config)
@@ -158,4 +181,9 @@ module _ {T : Type 0} (state : T → TapState) (first count : ℕ) (seen now : L
             (drill_lines first count kinds name entries numbers)) is_err
             (put (λ no. absurd (cc (is_err, no))))),
       )
-      by (Err NoMemory) is_err = (lived.entries, is.saw, kept is_err)
+      by (Err NoMemory) is_err = (
+        lived.entries,
+        is.saw,
+        both_added drill_names [] lived.entries lived.entries image stands refl,
+        kept is_err,
+      )

@@ -9,7 +9,7 @@ use Rattle.std.specs.Io.KnownBytes.{Appends}
 use Rattle.std.proofs.KnownBytes.{Appends-nil, Appends-trans}
 use Rattle.std.proofs.lemmas.List.{length_push, take_all}
 use Rattle.outside.specs.Bytes.{AppendsFront, PutAppends}
-use Rattle.outside.proofs.Fronts.{appended_front, front_on}
+use Rattle.outside.proofs.Fronts.{appended_front}
 use Rattle.wires.specs.Wire.{WireCall}
 use Rattle.wires.specs.MemWire.{calls_told}
 use Rattle.pair_entries.specs.declared.entry.Entry.{Entry}
@@ -33,9 +33,10 @@ use Rattle.replay_lines.specs.ReplayLines.{life_lines, last_lines}
 use Rattle.capture_replay.specs.Replay.{Left, Played, after, nothing, IsPlayed, ArePlayed}
 use Rattle.capture_replay.specs.Replay.{config_of}
 use Rattle.capture_replay.specs.Replay.{end_name, lives_lines, entries_left, numbers_left}
-use Rattle.capture_replay.specs.Replay.{replay_lines, Replays}
+use Rattle.capture_replay.specs.Replay.{Replays, WereAdded}
 use Rattle.capture_replay.specs.Lived.{IsLived, LivesOn, left_after, SoFar}
 use Rattle.capture_replay.specs.Rounds.{moment_after}
+use Rattle.capture_replay.proofs.Added.{none_added}
 
 -- the life of one pass of the loop
 pub there_in : (all lives : List (List Event)) (i : ℕ) (item lines : List Event) → all ≡ lives
@@ -147,6 +148,10 @@ module _ {T : Type 0} (state : T → TapState) (capture : Capture)
       ∙ ap (λ (n : ℕ). lives_lines 1 so_far.played ++ lines_of n life)
       (let e = so_far.all in omega (arith, e))
 
+  journal_longer : IsJournal capture.names (left_after nothing longer).entries life.image
+  journal_longer = subst (λ (l : Left). IsJournal capture.names l.entries life.image)
+      (sym (left_more nothing so_far.played life)) is.is_left.journal
+
   -- it was printed
   pub next_so_far : (next : Option (List ℕ)) → Appends new next (lines_of (count + 1) life)
       → SoFar state capture (count + 1) life.moment seen now life.image old next
@@ -154,8 +159,7 @@ module _ {T : Type 0} (state : T → TapState) (capture : Capture)
     played = longer;
     all = let e = length_push so_far.played life in let f = so_far.all in omega (arith, e, f);
     are = are_longer;
-    journal = subst (λ (l : Left). IsJournal capture.names l.entries life.image)
-        (sym (left_more nothing so_far.played life)) is.is_left.journal;
+    journal = journal_longer;
     leaves = subst (λ (l : Left).
         LeavesDays Answers capture.names (days_of l.entries) l.client l.venue)
         (sym (left_more nothing so_far.played life)) is.leaves;
@@ -167,13 +171,10 @@ module _ {T : Type 0} (state : T → TapState) (capture : Capture)
 
   -- a front of it was
   pub front_longer : (next : Option (List ℕ)) → AppendsFront new next (lines_of (count + 1) life)
-      → AppendsFront old next (replay_lines longer)
-  front_longer next put = front_on old next (lives_lines 1 longer)
-      (last_lines (length (entries_left [] longer))
-      (numbers_left (entries_left [] longer))) (replay_lines longer) refl
-      (subst (λ (l : List ℕ). AppendsFront old next l) (sym text_longer)
+      → AppendsFront old next (lives_lines 1 longer)
+  front_longer next put = subst (λ (l : List ℕ). AppendsFront old next l) (sym text_longer)
       (appended_front old new next (lives_lines 1 so_far.played) (lines_of (count + 1) life)
-      so_far.put put))
+      so_far.put put)
 
   -- what was put of it, where its lines were not put whole
   pub cut_off : (told : Result ⊤ PrintError) → IsErr told → (error : PrintError)
@@ -187,8 +188,11 @@ module _ {T : Type 0} (state : T → TapState) (capture : Capture)
     [],
     are_longer,
     seen_none state now,
-    front_longer next (subst (λ (r : Result ⊤ PrintError).
-        PutAppends new next r (lines_of (count + 1) life)) is put),
+    none_added capture.names (entries_left [] longer) life.image
+        (subst (λ (es : List Entry). IsJournal capture.names es life.image)
+        (sym (entries_are nothing longer)) journal_longer),
+    inl (front_longer next (subst (λ (r : Result ⊤ PrintError).
+        PutAppends new next r (lines_of (count + 1) life)) is put)),
   )
 
 module _ {T : Type 0} (state : T → TapState) (capture : Capture) where
@@ -267,25 +271,48 @@ module _ {T : Type 0} (state : T → TapState) (capture : Capture) where
           lived.more within there lived.played lived.committed lived.saw told failed error result
           next is (subst (λ (l : List ℕ). PutAppends new next result l) text put)
 
-    abbrev last_of : List ℕ
-    last_of = last_lines (length (entries_left [] so_far.played))
-        (numbers_left (entries_left [] so_far.played))
+    -- the entries that they have left
+    abbrev known : List Entry
+    known = entries_left [] so_far.played
 
-    put_so_far : AppendsFront old new (replay_lines so_far.played)
-    put_so_far = front_on old new (lives_lines 1 so_far.played) last_of
-        (replay_lines so_far.played) refl (
-          length (lives_lines 1 so_far.played),
-          subst (λ (l : List ℕ). Appends old new l)
-              (sym (take_all (length (lives_lines 1 so_far.played)) (lives_lines 1 so_far.played)
-              (omega arith))) so_far.put,
-        )
+    abbrev last_of : List ℕ
+    last_of = last_lines (length known) (numbers_left known)
+
+    put_so_far : AppendsFront old new (lives_lines 1 so_far.played)
+    put_so_far = (
+      length (lives_lines 1 so_far.played),
+      subst (λ (l : List ℕ). Appends old new l)
+          (sym (take_all (length (lives_lines 1 so_far.played)) (lives_lines 1 so_far.played)
+          (omega arith))) so_far.put,
+    )
+
+    stands : IsJournal capture.names known image
+    stands = subst (λ (es : List Entry). IsJournal capture.names es image)
+        (sym (entries_are nothing so_far.played)) so_far.journal
 
     -- it ended here, and the taps saw some entries more
-    pub stopped : (told : Result ⊤ PrintError) → IsErr told → (more : List Entry)
-        → HaveSeen state between now more → Replays state capture seen now told old new
-    stopped (Ok value) failed more saw = absurd (cc failed)
-    stopped (Err error) failed more saw =
-        (so_far.played, between, more, so_far.are, saw, put_so_far)
+    stopped : (told : Result ⊤ PrintError) → IsErr told → (more : List Entry)
+        → HaveSeen state between now more → WereAdded capture.names known more
+        → Replays state capture seen now told old new
+    stopped (Ok value) failed more saw added = absurd (cc failed)
+    stopped (Err error) failed more saw added =
+        (so_far.played, between, more, so_far.are, saw, added, inl put_so_far)
+
+    -- so it did within a life
+    pub given_up : (config : Config) → config ≡ config_of capture → (told : Result ⊤ PrintError)
+        → IsErr told → (more : List Entry) → HaveSeen state between now more
+        → ((before : List Entry) → IsJournal config.names before image
+        → WereAdded config.names before more) → Replays state capture seen now told old new
+    given_up config is told failed more saw added = stopped told failed more saw
+        (subst (λ (k : Config). WereAdded k.names known more) is (added known
+        (subst (λ (k : Config). IsJournal k.names known image) (sym is) stands)))
+
+    -- and so it did behind them
+    pub left_off : (told : Result ⊤ PrintError) → IsErr told → between ≡ now
+        → Replays state capture seen now told old new
+    left_off told failed same = stopped told failed []
+        (subst (λ (s : List T). HaveSeen state between s []) same (seen_none state between))
+        (none_added capture.names known image stands)
 
     -- the last lines were put, or a front of them
     pub ended : (result : Result ⊤ PrintError) (next : Option (List ℕ)) (entries : ℕ)
@@ -297,19 +324,12 @@ module _ {T : Type 0} (state : T → TapState) (capture : Capture) where
         → Replays state capture seen now result old next
     ended result next entries numbers all same left put kept = by result refl
       where
-        whole : entries_left [] so_far.played ≡ (left_after nothing so_far.played).entries
-        whole = entries_are nothing so_far.played
-
-        found : (entries ≡ length (entries_left [] so_far.played))
-            × (numbers ≡ numbers_left (entries_left [] so_far.played))
-        found = left capture.names (entries_left [] so_far.played)
-            (subst (λ (es : List Entry). IsJournal capture.names es image) (sym whole)
-            so_far.journal)
+        found : (entries ≡ length known) × (numbers ≡ numbers_left known)
+        found = left capture.names known stands
 
         lines : last_lines entries numbers ≡ last_of
         lines = ap (λ (n : ℕ). last_lines n numbers) found.0
-            ∙ ap (λ (n : ℕ × ℕ × ℕ × ℕ).
-            last_lines (length (entries_left [] so_far.played)) n) found.1
+            ∙ ap (λ (n : ℕ × ℕ × ℕ × ℕ). last_lines (length known) n) found.1
 
         are : ArePlayed state (config_of capture) nothing seen capture.lives so_far.played now
         are = subst (λ (s : List T). ArePlayed state (config_of capture) nothing seen
@@ -317,6 +337,9 @@ module _ {T : Type 0} (state : T → TapState) (capture : Capture) where
 
         none : HaveSeen state now now []
         none = seen_none state now
+
+        added : WereAdded capture.names known []
+        added = none_added capture.names known image stands
 
         by : (r : Result ⊤ PrintError) → result ≡ r → Replays state capture seen now r old next
         by (Ok value) is = (
@@ -334,10 +357,14 @@ module _ {T : Type 0} (state : T → TapState) (capture : Capture) where
           [],
           are,
           none,
-          appended_front old new next (lives_lines 1 so_far.played) last_of so_far.put
-              (subst (λ (l : List ℕ). AppendsFront new next l) lines
-              (subst (λ (r : Result ⊤ PrintError). PutAppends new next r
-              (last_lines entries numbers)) is (put (λ no. absurd (cc (is, no)))))),
+          added,
+          inr (
+            so_far.all ∙ all,
+            appended_front old new next (lives_lines 1 so_far.played) last_of so_far.put
+                (subst (λ (l : List ℕ). AppendsFront new next l) lines
+                (subst (λ (r : Result ⊤ PrintError). PutAppends new next r
+                (last_lines entries numbers)) is (put (λ no. absurd (cc (is, no)))))),
+          ),
         )
         by (Err NoMemory) is = (
           so_far.played,
@@ -345,6 +372,7 @@ module _ {T : Type 0} (state : T → TapState) (capture : Capture) where
           [],
           are,
           none,
-          subst (λ (n : Option (List ℕ)). AppendsFront old n (replay_lines so_far.played))
-              (sym (kept is)) put_so_far,
+          added,
+          inl (subst (λ (n : Option (List ℕ)). AppendsFront old n (lives_lines 1 so_far.played))
+              (sym (kept is)) put_so_far),
         )

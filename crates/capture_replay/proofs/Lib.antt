@@ -2,6 +2,7 @@ pub mod EachLine
 pub mod Shown
 pub mod Coming
 pub mod Playing
+pub mod Added
 pub mod Living
 pub mod LastLeft
 pub mod Following

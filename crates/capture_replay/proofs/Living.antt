@@ -1,13 +1,14 @@
 -- A life of a capture, from what `live` says over wires, a clock and a disk in memory.
 use Rattle.std.proofs.Common.{◌≡◌, ◌∙◌, ℕ, ◌-◌, ◌^◌, ◌==◌, Bool, true, false, List, [], ◌++◌}
 use Rattle.std.proofs.Common.{length, filter, refl, sym, ap, subst, Some, None, is_some}
-use Rattle.std.proofs.Common.{inl, inr, IfSome, if◌then◌else◌, arith}
+use Rattle.std.proofs.Common.{inl, inr, IfSome, if◌then◌else◌}
 use Rattle.std.specs.declared.option.Option.{Option}
 use Rattle.outside.specs.Disk.{Only}
 use Rattle.outside.specs.Memory.{DiskState}
 use Rattle.outside.specs.MemDisk.{IsImageOf, fresh}
 use Rattle.outside.specs.declared.mem_disk.Fuse.{Fuse}
 use Rattle.order_meaning.specs.declared.Side.TheVariants.{Client, Venue}
+use Rattle.order_meaning.specs.declared.names.Names.{Names}
 use Rattle.pair_entries.specs.declared.entry.Entry.{Entry}
 use Rattle.wires.specs.Wire.{Came, WireCall}
 use Rattle.wires.specs.Script.{Plays}
@@ -21,21 +22,39 @@ use Rattle.gateway_life.specs.declared.end.LifeEnd.{LifeEnd}
 use Rattle.gateway_life.specs.Life.{Done, IsJournal}
 use Rattle.gateway_life.specs.Laws.{AreShown}
 use Rattle.gateway_life.specs.Lived.{Told, told, Premises, IsLeft}
-use Rattle.drop_taps.specs.Shown.{TapState}
+use Rattle.drop_taps.specs.Shown.{TapState, HaveSeen}
 use Rattle.gateway_life.specs.Watched.{TapsSaw, WereCommitted}
 use Rattle.gateway_life.proofs.Living.{same_journal}
 use Rattle.pair_journal.specs.Laws.{HasOneReading}
 use Rattle.capture_text.specs.declared.capture.Event.{Event}
 use Rattle.capture_text.specs.Capture.{stop_of}
 use Rattle.capture_replay.specs.Rounds.{is_round, script_of, moments_from}
-use Rattle.capture_replay.specs.Replay.{Left}
+use Rattle.capture_replay.specs.Replay.{Left, WereAdded}
 use Rattle.capture_replay.specs.Stops.{may_end}
 use Rattle.capture_replay.specs.LifeWire.{unplayed}
 use Rattle.capture_replay.specs.Lived.{IsLived, LivesOn}
+use Rattle.capture_replay.proofs.Added.{committed_added}
 
 only_fresh : (bytes fail : List ℕ) (fuse : Fuse) → Only bytes (IsImageOf (fresh bytes fail fuse))
 only_fresh bytes fail fuse image (inl is) = is
 only_fresh bytes fail fuse image (inr is) = is
+
+-- what the taps saw of a life was committed behind what there was before
+pub taps_added : {T : Type 0} (state : T → TapState) (seen now : List T) (names : Names)
+    (disk0 disk : DiskState) (end : LifeEnd) (bytes fail : List ℕ) (fuse : Fuse)
+    → TapsSaw state seen now names (Some disk0.bytes) (IsImageOf disk0) (IsImageOf disk) end
+    → disk0 ≡ fresh bytes fail fuse → (more : List Entry) × HaveSeen state seen now more
+    × ((before : List Entry) → IsJournal names before bytes → WereAdded names before more)
+taps_added state seen now names disk0 disk end bytes fail fuse given is =
+    let saw = subst (λ (d : DiskState). TapsSaw state seen now names (Some d.bytes) (IsImageOf d)
+    (IsImageOf disk) end) is given in (
+      saw.more,
+      saw.seen,
+      λ before journal.
+          let (found, stands, were) = saw.left (only_fresh bytes fail fuse) before journal
+          disk.bytes (inl refl) in
+          committed_added names end before saw.more found disk.bytes were stands,
+    )
 
 if_told : {A : Type 0} (lost : Bool) (a : A)
     → is_some (if lost then None else Some a) ≡ true

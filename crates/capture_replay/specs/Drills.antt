@@ -1,5 +1,5 @@
 -- Own: a drill; docs/DEFINITIONS.md, "The drill".
-use Rattle.std.specs.Prelude.{◌≡◌, ℕ, List, length, Result, Ok, Err, ⊤, None}
+use Rattle.std.specs.Prelude.{◌≡◌, ℕ, List, [], length, Result, Ok, Err, ⊤, None}
 use Rattle.std.specs.declared.option.Option.{Option}
 use Rattle.std.specs.Io.KnownBytes.{Appends}
 use Rattle.outside.specs.Bytes.{AppendsFront}
@@ -10,7 +10,7 @@ use Rattle.replay_lines.specs.declared.printing.PrintError.TheVariants.{OutputFa
 use Rattle.replay_lines.specs.ReplayLines.{drill_lines}
 use Rattle.drill_day.specs.Drill.{drill_names, drill_heart, drill_events, kinds_of}
 use Rattle.capture_replay.specs.Replay.{Played, IsPlayed, config_with, nothing, end_name}
-use Rattle.capture_replay.specs.Replay.{numbers_left}
+use Rattle.capture_replay.specs.Replay.{numbers_left, WereAdded}
 
 -- THE DAY OF A DRILL WAS LIVED, over an unborn disk, as a life of a capture is; and the taps saw
 -- what was committed in it.
@@ -27,8 +27,8 @@ lines_of_drill first count life = let kinds = kinds_of first count in
     (end_name life.end) (length life.entries) (numbers_left life.entries)
 
 -- WHAT A DRILL DOES by its answer: at `Ok` its day was lived, and its lines are printed; where the
--- sink failed, a front of them is; for want of memory nothing is printed, and the taps saw some
--- entries.
+-- sink failed, a front of them is; for want of memory nothing is printed, and what the taps saw was
+-- committed.
 abbrev pub Drills : {T : Type 0} → (T → TapState) → (first count : ℕ) → (seen now : List T)
     → Result ⊤ PrintError → (old new : Option (List ℕ)) → Type 0
 Drills state first count seen now (Ok value) old new = (life : Played)
@@ -38,4 +38,5 @@ Drills state first count seen now (Err OutputFault) old new = (life : Played)
     × IsDrilled state first count seen now life
     × AppendsFront old new (lines_of_drill first count life)
 Drills state first count seen now (Err NoMemory) old new =
-    (more : List Entry) × HaveSeen state seen now more × (new ≡ old)
+    (more : List Entry) × HaveSeen state seen now more × WereAdded drill_names [] more
+    × (new ≡ old)

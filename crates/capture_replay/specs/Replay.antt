@@ -1,7 +1,8 @@
 -- Own: the lives of a capture, and what is printed of them; docs/DEFINITIONS.md, "A replay".
 use Rattle.std.specs.Prelude.{◌≡◌, ℕ, ◌+◌, true, false, List, [], ◌∷◌, ◌++◌, length, filter, codes}
-use Rattle.std.specs.Prelude.{Result, Ok, Err, ⊤}
+use Rattle.std.specs.Prelude.{◌⊎◌, Result, Ok, Err, ⊤}
 use Rattle.std.specs.declared.option.Option.{Option}
+use Rattle.std.specs.Option.{option_to_list}
 use Rattle.std.specs.Io.KnownBytes.{Appends}
 use Rattle.outside.specs.Bytes.{AppendsFront}
 use Rattle.order_meaning.specs.declared.Side.TheVariants.{Client, Venue}
@@ -18,7 +19,7 @@ use Rattle.life_laws.specs.Days.{DayEnded, DayLeft, Transcript, LeavesDays, tran
 use Rattle.gateway_config.specs.declared.config.Config.{Config}
 use Rattle.gateway_life.specs.declared.end.LifeEnd.{LifeEnd}
 use Rattle.gateway_life.specs.declared.end.LifeEnd.TheVariants as ends
-use Rattle.gateway_life.specs.Life.{Done}
+use Rattle.gateway_life.specs.Life.{Done, IsJournal}
 use Rattle.gateway_life.specs.Laws.{AreTakenDays}
 use Rattle.gateway_life.specs.Lived.{IsLeft}
 use Rattle.gateway_life.specs.Watched.{WereCommitted}
@@ -142,8 +143,21 @@ replay_lines played = lives_lines 1 played
     ++ last_lines (length (entries_left [] played))
     (numbers_left (entries_left [] played))
 
+-- What is printed of these lives where a replay is broken off: a front of their lines, and of those
+-- of the journal only where they are all lives of the capture.
+abbrev pub PrintsFront : Capture → List Played → (old new : Option (List ℕ)) → Type 0
+PrintsFront capture played old new = AppendsFront old new (lives_lines 1 played)
+    ⊎ ((length played ≡ length capture.lives) × AppendsFront old new (replay_lines played))
+
+-- These entries were committed behind those: some bytes are the journal of both, and perhaps of one
+-- more, which a disk fault may leave.
+abbrev pub WereAdded : Names → (before more : List Entry) → Type 0
+WereAdded names before more = (last : Option Entry) × (image : List ℕ)
+    × IsJournal names (before ++ more ++ option_to_list last) image
+
 -- WHAT A REPLAY DOES by its answer: at `Ok` all lives of the capture were played, and all is
--- printed; at an error some were played, and a front of what is printed of them.
+-- printed; at an error some were played, and a front of what is printed of them. What the taps saw
+-- besides was committed behind what these have left.
 abbrev pub Replays : {T : Type 0} → (T → TapState) → Capture → (seen now : List T)
     → Result ⊤ PrintError → (old new : Option (List ℕ)) → Type 0
 Replays state capture seen now (Ok value) old new =
@@ -153,5 +167,5 @@ Replays state capture seen now (Ok value) old new =
 Replays {T} state capture seen now (Err error) old new =
     (played : List Played) × (between : List T) × (more : List Entry)
     × ArePlayed state (config_of capture) nothing seen capture.lives played between
-    × HaveSeen state between now more
-    × AppendsFront old new (replay_lines played)
+    × HaveSeen state between now more × WereAdded capture.names (entries_left [] played) more
+    × PrintsFront capture played old new

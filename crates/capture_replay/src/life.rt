@@ -4,6 +4,8 @@ ghost use Rattle.std.specs.Prelude.{◌≡◌, List, All, IfOk, IfErr, Some};
 ghost use Rattle.pair_entries.specs.declared.entry.Entry.{Entry};
 ghost use Rattle.drop_taps.specs.Shown.{HaveSeen, state_by};
 ghost use Rattle.capture_text.specs.Line.{IsBounded};
+ghost use Rattle.gateway_life.specs.Life.{IsJournal};
+ghost use Rattle.capture_replay.specs.Replay.{WereAdded};
 ghost use Rattle.capture_replay.specs.Lived.{LivesOn};
 
 use crate::clock::LifeClock;
@@ -51,7 +53,9 @@ pub(crate) fn live_lines(
         taps.old.items taps.new.items (Some lived.client) (Some lived.venue) lived.end
         lived.image.items) }
     ensures taps { (more : List Entry) × HaveSeen
-        (state_by has_failed entries tally counts_all refused) taps.old.items taps.new.items more }
+        (state_by has_failed entries tally counts_all refused) taps.old.items taps.new.items more
+        × ((before : List Entry) → IsJournal config.now.names before image.items
+        → WereAdded config.now.names before more) }
 {
     an_image_has_one_reading();
     let rounds = rounds_of(life);

@@ -1,6 +1,7 @@
 use Rattle.std.proofs.Common.{ap, Some}
 use Rattle.drill_day.specs.declared.kinds.Kinds.{Kinds}
-use Rattle.capture_replay.proofs.Drilled.{undrilled, day_bounded, day_lived, day_left, drilled}
+use Rattle.capture_replay.proofs.Drilled.{undrilled, unread, day_bounded, day_lived, day_left}
+use Rattle.capture_replay.proofs.Drilled.{drilled}
 use Rattle.capture_replay.proofs.drilling.drill.Goals as goal
 
 pub returns-in_err-day-clause-drills : goal.returns-in_err-day-clause-drills
@@ -13,6 +14,26 @@ live_lines-requires g c = record {
   bounded = day_bounded c.args.first c.args.count c.in_ok-day.day.life
       c.in_ok-day.ensures.life c.in_ok-day.ensures.sound;
 }
+
+pub returns-in_err-lived-clause-drills : goal.returns-in_err-lived-clause-drills
+returns-in_err-lived-clause-drills g c =
+    let day = c.in_ok-day in
+    let saw = c.in_err-lived.ensures.taps in
+    unread _ c.args.first c.args.count c.args.taps.now.items c.live_lines.new.taps.items
+    c.config_of-config.result day.day.names day.day.heart c.new.result.items
+    (g.O.Sink.bytes c.args.out.now) c.from_residual-in_err-lived.result saw.0
+    c.config_of-config.ensures day.ensures.names c.new.ensures.items saw.1 saw.2
+    c.from_residual-in_err-lived.ensures.1
+
+pub returns-in_err-entries-clause-drills : goal.returns-in_err-entries-clause-drills
+returns-in_err-entries-clause-drills g c =
+    let day = c.in_ok-day in
+    let saw = c.in_ok-lived.ensures.taps in
+    unread _ c.args.first c.args.count c.args.taps.now.items c.live_lines.new.taps.items
+    c.config_of-config.result day.day.names day.day.heart c.new.result.items
+    (g.O.Sink.bytes c.args.out.now) c.from_residual-in_err-entries.result saw.0
+    c.config_of-config.ensures day.ensures.names c.new.ensures.items saw.1 saw.2
+    c.from_residual-in_err-entries.ensures.1
 
 pub left_by-requires : goal.left_by-requires
 left_by-requires g c =

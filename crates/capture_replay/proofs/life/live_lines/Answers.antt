@@ -3,7 +3,7 @@ use Rattle.std.specs.Prelude.{is_some}
 use Rattle.wires.specs.Clock.{moments_told}
 use Rattle.capture_text.specs.Capture.{stop_of}
 use Rattle.capture_replay.specs.Stops.{fuse_of, may_end}
-use Rattle.capture_replay.proofs.Living.{lives_on}
+use Rattle.capture_replay.proofs.Living.{lives_on, taps_added}
 use Rattle.capture_replay.proofs.life.live_lines.Goals as goal
 
 pub returns-clause-lived : goal.returns-clause-lived
@@ -28,3 +28,33 @@ returns-clause-lived g c =
     c.an_image_has_one_reading.ensures c.disk_of-disk.ensures c.new-client.ensures
     c.new-venue.ensures c.new-clock.ensures
     c.rounds_of-rounds.ensures c.in_ok-image.ensures.among client_told venue_told clock_told whole
+
+pub returns-then-refused-clause-taps : goal.returns-then-refused-clause-taps
+returns-then-refused-clause-taps g c = taps_added _ c.args.taps.now.items
+    c.live-end.new.taps.items c.args.config.now.names c.disk_of-disk.result c.live-end.new.disk
+    c.live-end.result c.args.image.items [] (fuse_of c.stop-stop.result) c.live-end.ensures.taps
+    c.disk_of-disk.ensures
+
+pub returns-in_default-clause-taps : goal.returns-in_default-clause-taps
+returns-in_default-clause-taps g c = taps_added _ c.args.taps.now.items
+    c.live-end.new.taps.items c.args.config.now.names c.disk_of-disk.result c.live-end.new.disk
+    c.live-end.result c.args.image.items [] (fuse_of c.stop-stop.result) c.live-end.ensures.taps
+    c.disk_of-disk.ensures
+
+pub returns-in_default-venue-clause-taps : goal.returns-in_default-venue-clause-taps
+returns-in_default-venue-clause-taps g c = taps_added _ c.args.taps.now.items
+    c.live-end.new.taps.items c.args.config.now.names c.disk_of-disk.result c.live-end.new.disk
+    c.live-end.result c.args.image.items [] (fuse_of c.stop-stop.result) c.live-end.ensures.taps
+    c.disk_of-disk.ensures
+
+pub returns-in_err-image-clause-taps : goal.returns-in_err-image-clause-taps
+returns-in_err-image-clause-taps g c = taps_added _ c.args.taps.now.items
+    c.live-end.new.taps.items c.args.config.now.names c.disk_of-disk.result c.live-end.new.disk
+    c.live-end.result c.args.image.items [] (fuse_of c.stop-stop.result) c.live-end.ensures.taps
+    c.disk_of-disk.ensures
+
+pub returns-clause-taps : goal.returns-clause-taps
+returns-clause-taps g c = taps_added _ c.args.taps.now.items
+    c.live-end.new.taps.items c.args.config.now.names c.disk_of-disk.result c.live-end.new.disk
+    c.live-end.result c.args.image.items [] (fuse_of c.stop-stop.result) c.live-end.ensures.taps
+    c.disk_of-disk.ensures

@@ -1,10 +1,8 @@
 use Rattle.std.proofs.Common.{◌∙◌, ◌≡◌, List, rules, length, refl, ap, Some}
-use Rattle.std.proofs.Common.{[]}
 use Rattle.capture_text.specs.declared.capture.Event.{Event}
-use Rattle.drop_taps.proofs.Showing.{seen_none}
 use Rattle.capture_replay.proofs.Shown.{are_shown, life_bounded}
 use Rattle.capture_replay.proofs.Following.{there_in, within_in, none_yet, lived_on, gone_on}
-use Rattle.capture_replay.proofs.Following.{broken_off, stopped, ended}
+use Rattle.capture_replay.proofs.Following.{broken_off, given_up, left_off, ended}
 use Rattle.capture_replay.proofs.replaying.replay.Goals as goal
 
 pub loop-index-init : goal.loop-index-init
@@ -64,11 +62,11 @@ loop-index-preserved g c =
 pub returns-in_err-lived-clause-replays : goal.returns-in_err-lived-clause-replays
 returns-in_err-lived-clause-replays g c =
     let saw = c.in_err-lived.ensures.taps in
-    stopped _ c.args.capture.now c.loop-index.index c.loop-index.moment c.args.taps.now.items
+    given_up _ c.args.capture.now c.loop-index.index c.loop-index.moment c.args.taps.now.items
     c.loop-index.taps.items
     c.live_lines.new.taps.items c.loop-index.image.items (g.O.Sink.bytes c.args.out.now)
-    (g.O.Sink.bytes c.loop-index.out) c.loop-index.invariant.so_far c.from_residual.result
-    c.from_residual.ensures.0 saw.0 saw.1
+    (g.O.Sink.bytes c.loop-index.out) c.loop-index.invariant.so_far c.config_of-config.result
+    c.config_of-config.ensures c.from_residual.result c.from_residual.ensures.0 saw.0 saw.1 saw.2
 
 pub returns-in_err-put_life-clause-replays : goal.returns-in_err-put_life-clause-replays
 returns-in_err-put_life-clause-replays g c =
@@ -106,12 +104,11 @@ left_by-requires g c = (_, _, c.loop-index.invariant.so_far.journal)
 
 pub returns-in_err-entries-clause-replays : goal.returns-in_err-entries-clause-replays
 returns-in_err-entries-clause-replays g c =
-    stopped _ c.args.capture.now c.loop-index.index c.loop-index.moment c.args.taps.now.items
+    left_off _ c.args.capture.now c.loop-index.index c.loop-index.moment c.args.taps.now.items
     c.loop-index.taps.items
     c.loop-index.taps.items c.loop-index.image.items (g.O.Sink.bytes c.args.out.now)
     (g.O.Sink.bytes c.loop-index.out) c.loop-index.invariant.so_far
-    c.from_residual-in_err-entries.result c.from_residual-in_err-entries.ensures.0
-    [] (seen_none _ c.loop-index.taps.items)
+    c.from_residual-in_err-entries.result c.from_residual-in_err-entries.ensures.0 refl
 
 pub returns-clause-replays : goal.returns-clause-replays
 returns-clause-replays g c =
