@@ -3,6 +3,7 @@ pub mod Spelt
 pub mod Finding
 pub mod Twins
 pub mod OneReading
+pub mod Made
 pub mod Reached
 pub mod Put
 pub mod Migrated

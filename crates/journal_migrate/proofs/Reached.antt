@@ -12,20 +12,19 @@ use Rattle.gate_log.specs.Log.{IsAt, StandsOver}
 use Rattle.gate_log.specs.State.{LogState}
 use Rattle.gate_log.proofs.Blocks.{Stands-unique, blocks-append, length-blocks-push}
 use Rattle.pair_entries.specs.declared.entry.Entry.{Entry}
-use Rattle.pair_entries.specs.Payload.{Next, entry_bytes, payload_on}
+use Rattle.pair_entries.specs.Payload.{Next, entry_bytes}
 use Rattle.pair_entries.specs.Birth.{birth_bytes}
-use Rattle.pair_journal.specs.Numbers.{GoesOn, first_numbers, numbers_before}
-use Rattle.pair_journal.specs.Days.{dated, day_after, day_number, payload_behind}
-use Rattle.pair_journal.specs.Journal.{Born, Refused}
+use Rattle.pair_journal.specs.Numbers.{first_numbers, numbers_after}
+use Rattle.pair_journal.specs.Days.{dated, day_number}
+use Rattle.pair_journal.specs.Journal.{DaysGoOn, Born, Refused}
 use Rattle.pair_journal.specs.Calls.{payloads_of}
-use Rattle.pair_journal.proofs.Carrying.{payloads-push}
-use Rattle.pair_journal.proofs.Dating.{dated-split, day_number-push, DaysGoOn-push}
-use Rattle.pair_journal.proofs.Dating.{numbers_after-push}
+use Rattle.pair_journal.proofs.Dating.{dated-split}
 use Rattle.pair_journal.proofs.Walking.{head_of}
 use Rattle.journal_migrate.specs.Format1.{JournalOf1, birth1_bytes, payloads1_of}
 use Rattle.journal_migrate.specs.Migrating.{image_of}
 use Rattle.journal_migrate.specs.Walk.{IsBirth, IsNext, IsNoNext, Follows1, IsReached, IsBegun}
 use Rattle.journal_migrate.proofs.Spelt.{same_birth1, goes_further, last_of}
+use Rattle.journal_migrate.proofs.Made.{one_more}
 
 pub first_reached : (bytes p made : List ℕ) (after : List (List ℕ)) (place day : ℕ) (numbers : Next)
     → Stands bytes (p ∷ after) → IsBirth p made → place ≡ 5 + length p → day ≡ 0
@@ -149,8 +148,12 @@ module _ (bytes : List ℕ) (index place day : ℕ) (numbers : Next)
           ∙ ap (λ (l : List (List ℕ)). birth1_bytes at.names ∷ l)
           (sym (map-append entry_bytes at.entries (next.entry ∷ [])))
 
-      dated_now : day_now ≡ day_after (day_number at.entries) next.entry
-      dated_now = next.day_is ∙ ap (λ n. day_after n next.entry) at.on_day
+      goes_on : DaysGoOn first_numbers longer × (day_now ≡ day_number longer)
+          × (numbers_now ≡ numbers_after first_numbers longer)
+          × (blocks (payloads_of at.names longer) ≡ blocks (payloads_of at.names at.entries) ++ made)
+      unfolding longer
+      goes_on = one_more at.names at.entries day numbers at.sound at.on_day at.reached p made day_now
+          numbers_now next
 
       pub next_reached : (now : IsReached bytes (index + 1) place_now day_now numbers_now)
           × (blocks (payloads_of now.names now.entries)
@@ -164,9 +167,7 @@ module _ (bytes : List ℕ) (index place day : ℕ) (numbers : Next)
           stands = subst (Stands bytes)
               (with_it ∙ ap (λ (l : List (List ℕ)). l ++ left) pushed) at.stands;
           named = at.named;
-          sound = DaysGoOn-push first_numbers at.entries next.entry at.sound next.follows.sound
-              (subst (λ (n : Next). GoesOn (numbers_before n next.entry) next.entry) at.reached
-              next.follows.goes_on);
+          sound = goes_on.0;
           count = omega (arith, at.count, length-append at.entries (next.entry ∷ []));
           place_is = omega (
             arith,
@@ -175,15 +176,10 @@ module _ (bytes : List ℕ) (index place day : ℕ) (numbers : Next)
             length-blocks-push before p,
             ap (λ (l : List (List ℕ)). length (blocks l)) pushed,
           );
-          on_day = dated_now ∙ sym (day_number-push at.entries next.entry);
-          reached = next.numbers_are
-              ∙ sym (numbers_after-push first_numbers at.entries next.entry);
+          on_day = goes_on.1;
+          reached = goes_on.2;
         },
-        ap blocks (sym (payloads-push at.names at.entries next.entry))
-            ∙ blocks-append (payloads_of at.names at.entries)
-            (payload_behind at.entries next.entry ∷ [])
-            ∙ ap (λ (l : List ℕ). blocks (payloads_of at.names at.entries) ++ l)
-            (ap (λ n. blocks (payload_on n next.entry ∷ [])) (sym dated_now) ∙ sym next.record_is),
+        goes_on.3,
       )
 
   -- a front of what was put of them is a front of all

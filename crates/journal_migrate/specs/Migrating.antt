@@ -3,13 +3,15 @@ use Rattle.std.specs.Prelude.{◌≡◌, ◌≢◌, ◌⊎◌, ℕ, ◌<◌, ◌
 use Rattle.std.specs.Prelude.{Result, Ok, Err}
 use Rattle.std.specs.Io.KnownBytes.{Appends}
 use Rattle.std.specs.declared.option.Option.{Option}
-use Rattle.outside.specs.Bytes.{AppendsFront}
+use Rattle.outside.specs.Bytes.{AppendsFront, PutAppends}
 use Rattle.outside.specs.Causes.{Rose}
 use Rattle.outside.specs.declared.disk.TheConstants.{MAX_DISK}
 use Rattle.order_meaning.specs.declared.names.Names.{Names}
 use Rattle.gate_log.specs.Records.{blocks}
 use Rattle.pair_entries.specs.declared.entry.Entry.{Entry}
-use Rattle.pair_journal.specs.Journal.{JournalOf, Unborn, Born, Refused}
+use Rattle.pair_entries.specs.Birth.{AreNames}
+use Rattle.pair_journal.specs.Numbers.{first_numbers}
+use Rattle.pair_journal.specs.Journal.{JournalOf, DaysGoOn, Unborn, Born, Refused}
 use Rattle.pair_journal.specs.Calls.{payloads_of}
 use Rattle.journal_migrate.specs.declared.migrating.MigrateError.{MigrateError}
 use Rattle.journal_migrate.specs.declared.migrating.MigrateError.TheVariants as errors
@@ -52,6 +54,13 @@ Migrates bytes (Err (errors.Refused at)) old new =
 Migrates bytes (Err errors.Full) old new = IsTooLong bytes × Appends old new []
 Migrates bytes (Err errors.OutputFault) old new = PutsTwinFront bytes old new
 Migrates bytes (Err other) old new = Appends old new [] ⊎ PutsTwinFront bytes old new
+
+-- WHATEVER THE DISK TELLS, nothing was put, or the image of some journal in format 2: all of it at
+-- `Ok`, and a front of it at an error.
+abbrev pub PutsImage : {T : Type 0} → Result T MigrateError → (old new : Option (List ℕ)) → Type 0
+PutsImage result old new = Appends old new []
+    ⊎ ((names : Names) × (entries : List Entry) × AreNames names × DaysGoOn first_numbers entries
+    × PutAppends old new result (image_of names entries))
 
 -- The count of faults of what fails by this error. It never falls: it has risen where that is the
 -- answer, and else it stands still.

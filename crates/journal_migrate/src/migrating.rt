@@ -7,7 +7,7 @@ ghost use Rattle.outside.specs.Bytes.{PutAppends};
 ghost use Rattle.outside.specs.Causes.{HasCause};
 ghost use Rattle.gate_log.specs.Log.{OnlyReads, StandsOver};
 ghost use Rattle.journal_migrate.specs.declared.migrating.MigrateError.TheVariants as errors;
-ghost use Rattle.journal_migrate.specs.Migrating.{Migrates, FailsBy};
+ghost use Rattle.journal_migrate.specs.Migrating.{Migrates, PutsImage, FailsBy};
 ghost use Rattle.journal_migrate.specs.Walk.{Walks, migrate_error};
 
 use crate::walk::Walk;
@@ -96,6 +96,7 @@ fn put_all<D: Disk, O: Sink>(
     requires stands { ForSome (D.bytes disk.old) (StandsOver log.now) }
     ensures walks { IfSome (D.bytes disk.old) (λ b.
         Walks b result (O.bytes out.old) (O.bytes out.new)) }
+    ensures puts { PutsImage result (O.bytes out.old) (O.bytes out.new) }
     ensures only_read { OnlyReads D.bytes D.image disk.old disk.new }
     ensures disk_cause { FailsBy errors.DiskFault (D.faults disk.old) (D.faults disk.new) result }
     ensures output_cause { FailsBy errors.OutputFault (O.faults out.old) (O.faults out.new) result }
@@ -128,7 +129,8 @@ fn is_too_long(log: &Log) -> bool
 /// `Refused` exactly where the bytes are refused as a journal of format 1, at that place, and
 /// `Full` exactly where the image would be longer than 1,073,741,824 bytes; then nothing was put.
 /// `DiskFault` and `OutputFault` only where the count of faults of the disk or of the sink rose in
-/// this call; `NoMemory`. What was put is then nothing or a front of the image.
+/// this call; `NoMemory`. What was put is then nothing or a front of the image. Of a disk that tells
+/// nothing, as a file, the image is that of what was read.
 pub fn migrate_journal<D: Disk, O: Sink>(
     alloc: Global,
     disk: &mut D,
@@ -136,6 +138,7 @@ pub fn migrate_journal<D: Disk, O: Sink>(
 ) -> Result<(), MigrateError>
     ensures migrates { IfSome (D.bytes disk.old) (λ b.
         Migrates b result (O.bytes out.old) (O.bytes out.new)) }
+    ensures puts { PutsImage result (O.bytes out.old) (O.bytes out.new) }
     ensures only_read { OnlyReads D.bytes D.image disk.old disk.new }
     ensures disk_cause { FailsBy errors.DiskFault (D.faults disk.old) (D.faults disk.new) result }
     ensures output_cause { FailsBy errors.OutputFault (O.faults out.old) (O.faults out.new) result }

@@ -83,6 +83,7 @@ impl Walk {
             → Stands b ps → IsAt ps 0 p → ReadsRecord
             (IsBirth p self.new.record.items × (self.new.place ≡ 5 + length p))
             (IsNoBirth p) 0 result) }
+        ensures made { OnOk result ((p : List ℕ) × IsBirth p self.new.record.items) }
         ensures only { result ≢ Err errors.OutputFault }
         ensures only_read { OnlyReads D.bytes D.image disk.old disk.new }
         ensures cause { FailsBy errors.DiskFault (D.faults disk.old) (D.faults disk.new) result }
@@ -112,6 +113,8 @@ impl Walk {
             (IsNext self.old.day self.old.next p self.new.day self.new.next self.new.record.items
             × (self.new.place ≡ self.old.place + 5 + length p))
             (IsNoNext self.old.next p) self.old.place result) }
+        ensures made { OnOk result ((p : List ℕ) × IsNext self.old.day self.old.next p
+            self.new.day self.new.next self.new.record.items) }
         ensures only { result ≢ Err errors.OutputFault }
         ensures only_read { OnlyReads D.bytes D.image disk.old disk.new }
         ensures cause { FailsBy errors.DiskFault (D.faults disk.old) (D.faults disk.new) result }

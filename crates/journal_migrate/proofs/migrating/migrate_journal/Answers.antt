@@ -1,4 +1,5 @@
-use Rattle.std.proofs.Common.{◌+◌, ◌-◌, ◌*◌, ◌≤◌, ◌<◌, ◌∙◌, refl, subst, IfSome, Ok, Err, None}
+use Rattle.std.proofs.KnownBytes.{Appends-nil}
+use Rattle.std.proofs.Common.{inl, ◌+◌, ◌-◌, ◌*◌, ◌≤◌, ◌<◌, ◌∙◌, refl, subst, IfSome, Ok, Err, None}
 use Rattle.std.proofs.Common.{MatchBool}
 use Rattle.std.specs.Prelude.{⊤}
 use Rattle.outside.specs.declared.disk.TheConstants.{MAX_DISK}
@@ -76,3 +77,15 @@ returns-clause-migrates g c =
     (log.end + 4 * (log.count - 1) < MAX_DISK)) c.if-is_too_long.false c.is_too_long.ensures)
     (subst (λ t. IfSome t (λ b. Walks b result old new))
     (c.put_all.ensures.only_read.same ∙ c.look.ensures.only_read.same) c.put_all-2.ensures.walks)
+
+pub returns-in_err-log-clause-puts : goal.returns-in_err-log-clause-puts
+returns-in_err-log-clause-puts g c = inl (Appends-nil (g.O.Sink.bytes c.args.out.now))
+
+pub returns-in_default-clause-puts : goal.returns-in_default-clause-puts
+returns-in_default-clause-puts g c = inl (Appends-nil (g.O.Sink.bytes c.args.out.now))
+
+pub returns-in_err-put_all-clause-puts : goal.returns-in_err-put_all-clause-puts
+returns-in_err-put_all-clause-puts g c = inl (Appends-nil (g.O.Sink.bytes c.args.out.now))
+
+pub returns-then-is_too_long-clause-puts : goal.returns-then-is_too_long-clause-puts
+returns-then-is_too_long-clause-puts g c = inl (Appends-nil (g.O.Sink.bytes c.args.out.now))

@@ -1,11 +1,14 @@
-use Rattle.std.proofs.Common.{◌≡◌, ◌+◌, ℕ, List, length, ◌∙◌, subst, arith, rules}
+use Rattle.std.proofs.Common.{◌≡◌, inl, ◌+◌, ℕ, List, length, ◌∙◌, subst, arith, rules}
 use Rattle.std.specs.Io.KnownBytes.{Appends}
+use Rattle.std.proofs.KnownBytes.{Appends-nil}
 use Rattle.outside.specs.Bytes.{AppendsFront}
 use Rattle.gate_log.proofs.Told.{if_some}
 use Rattle.journal_migrate.specs.declared.migrating.MigrateError.TheVariants as errors
 use Rattle.journal_migrate.specs.Walk.{IsBirth, IsNext}
 use Rattle.journal_migrate.proofs.Put.{handed, put_failed, nothing_put, first_put, first_begun}
 use Rattle.journal_migrate.proofs.Put.{first_unread, next_put, next_begun, next_unread, closed}
+use Rattle.journal_migrate.proofs.Made as made
+use Rattle.journal_migrate.proofs.Made.{first_made, first_cut, next_made, next_cut, cut_off}
 use Rattle.journal_migrate.proofs.migrating.put_all.Goals as goal
 
 pub returns-in_err-walk-clause-walks : goal.returns-in_err-walk-clause-walks
@@ -56,6 +59,10 @@ loop-index-init g c =
           walk.record.items walk.place walk.day walk.next day
           (c.read_birth.ensures.next ∙ c.in_ok-walk.ensures.next) c.in_ok-read_birth.ensures.read
           old new
+          (subst (λ (m : List ℕ). Appends old new m) c.record.ensures c.in_ok-put.ensures.bytes);
+      made = let birth = c.in_ok-read_birth.ensures.made in
+          first_made birth.0 walk.record.items birth.1 old new walk.day walk.next day
+          (c.read_birth.ensures.next ∙ c.in_ok-walk.ensures.next)
           (subst (λ (m : List ℕ). Appends old new m) c.record.ensures c.in_ok-put.ensures.bytes);
       few = omega (arith, day, c.in_ok-read_birth.ensures.place);
       of = c.in_ok-read_birth.ensures.of;
@@ -118,6 +125,11 @@ loop-index-preserved g c =
           next.next c.in_ok-read_entry.ensures.read new
           (subst (λ (m : List ℕ). Appends now new m) c.record-in-loop-index.ensures
           c.in_ok-put-2.ensures.bytes);
+      made = let entry = c.in_ok-read_entry.ensures.made in
+          next_made walk.day walk.next old now i.made entry.0 next.record.items next.day next.next
+          entry.1 new
+          (subst (λ (m : List ℕ). Appends now new m) c.record-in-loop-index.ensures
+          c.in_ok-put-2.ensures.bytes);
       few = c.in_ok-read_entry.ensures.few;
       of = c.in_ok-read_entry.ensures.of;
       only_read = search rules;
@@ -133,3 +145,45 @@ returns-clause-walks g c =
     (g.O.Sink.bytes c.loop-index.out) c.loop-index.invariant.put
     (omega (arith, c.loop-index-test.false, c.count-records.ensures.count)) c.put-2.result
     (g.O.Sink.bytes c.put-2.new.out) c.put-2.ensures.bytes c.put-2.ensures.only
+
+pub returns-in_err-walk-clause-puts : goal.returns-in_err-walk-clause-puts
+returns-in_err-walk-clause-puts g c = inl (Appends-nil (g.O.Sink.bytes c.args.out.now))
+
+pub returns-in_err-read_birth-clause-puts : goal.returns-in_err-read_birth-clause-puts
+returns-in_err-read_birth-clause-puts g c = inl (Appends-nil (g.O.Sink.bytes c.args.out.now))
+
+pub returns-in_err-put-clause-puts : goal.returns-in_err-put-clause-puts
+returns-in_err-put-clause-puts g c =
+    let old = g.O.Sink.bytes c.args.out.now in
+    let new = g.O.Sink.bytes c.put.new.out in
+    let birth = c.in_ok-read_birth.ensures.made in
+    first_cut birth.0 c.read_birth.new.self.record.items birth.1 old new
+    c.from_residual-in_err-put.result c.from_residual-in_err-put.ensures.0
+    (subst (λ (m : List ℕ). AppendsFront old new m) c.record.ensures c.in_err-put.ensures.bytes)
+
+pub returns-in_err-read_entry-clause-puts : goal.returns-in_err-read_entry-clause-puts
+returns-in_err-read_entry-clause-puts g c =
+    let walk = c.loop-index.walk in
+    cut_off walk.day walk.next (g.O.Sink.bytes c.args.out.now) (g.O.Sink.bytes c.loop-index.out)
+    c.loop-index.invariant.made c.from_residual-in_err-read_entry.result
+    c.from_residual-in_err-read_entry.ensures.0
+
+pub returns-in_err-put-2-clause-puts : goal.returns-in_err-put-2-clause-puts
+returns-in_err-put-2-clause-puts g c =
+    let walk = c.loop-index.walk in
+    let next = c.read_entry.new.self in
+    let entry = c.in_ok-read_entry.ensures.made in
+    let now = g.O.Sink.bytes c.loop-index.out in
+    let new = g.O.Sink.bytes c.put-in-loop-index.new.out in
+    next_cut walk.day walk.next (g.O.Sink.bytes c.args.out.now) now c.loop-index.invariant.made
+    entry.0 next.record.items next.day next.next entry.1 new c.from_residual-in_err-put-2.result
+    c.from_residual-in_err-put-2.ensures.0
+    (subst (λ (m : List ℕ). AppendsFront now new m) c.record-in-loop-index.ensures
+    c.in_err-put-2.ensures.bytes)
+
+pub returns-clause-puts : goal.returns-clause-puts
+returns-clause-puts g c =
+    let walk = c.loop-index.walk in
+    made.closed walk.day walk.next (g.O.Sink.bytes c.args.out.now)
+    (g.O.Sink.bytes c.loop-index.out) c.loop-index.invariant.made c.put-2.result
+    (g.O.Sink.bytes c.put-2.new.out) c.put-2.ensures.bytes

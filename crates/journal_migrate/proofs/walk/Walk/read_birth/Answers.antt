@@ -34,3 +34,10 @@ returns-clause-read g c =
           c.in_ok-renew_birth.ensures,
       refl,
     )
+
+pub returns-clause-made : goal.returns-clause-made
+returns-clause-made g c = (
+  c.payload-payload.result.now,
+  subst (λ r. TellsBirth r c.payload-payload.result.now c.renew_birth.new.record.items)
+      c.if-not-branch.false c.in_ok-renew_birth.ensures,
+)

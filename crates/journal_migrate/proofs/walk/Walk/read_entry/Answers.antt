@@ -51,3 +51,13 @@ returns-clause-read g c =
           c.in-Some.is c.in_ok-found.ensures,
       omega arith,
     )
+
+pub returns-clause-made : goal.returns-clause-made
+returns-clause-made g c =
+    let walk = c.args.self.now in
+    let read = c.payload-payload.result.now in (
+      read,
+      at_some c.in_ok-found.found (c.in-Some.day, c.in-Some.next) (IsNoNext walk.next read)
+          (λ (x : ℕ × Next). IsNext walk.day walk.next read x.0 x.1 c.renew_entry.new.record.items)
+          c.in-Some.is c.in_ok-found.ensures,
+    )
