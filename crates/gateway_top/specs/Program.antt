@@ -17,9 +17,9 @@ use Rattle.gateway_life.specs.declared.end.LifeEnd.{LifeEnd}
 use Rattle.gateway_top.specs.declared.serve_error.ServeError.{ServeError}
 use Rattle.gateway_top.specs.Serve.{Served}
 use Rattle.journal_migrate.specs.declared.migrating.MigrateError.{MigrateError}
-use Rattle.journal_migrate.specs.Migrating.{Migrates}
+use Rattle.journal_migrate.specs.Migrating.{Migrates, PutsImage}
 use Rattle.journal_show.specs.declared.journal_lines.ShowError.{ShowError}
-use Rattle.journal_show.specs.JournalLines.{Shows}
+use Rattle.journal_show.specs.JournalLines.{Shows, PutsLines}
 use Rattle.capture_replay.specs.declared.error.ReplayError.{ReplayError}
 use Rattle.replay_lines.specs.declared.printing.PrintError.{PrintError}
 use Rattle.gateway_top.specs.declared.command.Command.{Command}
@@ -151,10 +151,12 @@ abbrev pub IfShow : Option Command → Type 0 → Type 0
 IfShow (Some Show) holds = holds
 IfShow command holds = Unit {0}
 
--- THE JOURNAL WAS SHOWN, by the status, where its disk tells what it holds.
+-- THE JOURNAL WAS SHOWN, by the status: lines of a journal were put, and those of the one on the
+-- disk where that tells what it holds.
 abbrev pub ShownBy : Status → Option (List ℕ) → Option (List ℕ) → Option (List ℕ) → Type 0
 ShownBy status told old new = (answer : Result ⊤ ShowError)
-    × (status ≡ shown_status answer) × IfSome told (λ bytes. Shows bytes answer old new)
+    × (status ≡ shown_status answer) × PutsLines answer old new
+    × IfSome told (λ bytes. Shows bytes answer old new)
 
 -- ---- migrate
 
@@ -162,10 +164,12 @@ abbrev pub IfMigrate : Option Command → Type 0 → Type 0
 IfMigrate (Some Migrate) holds = holds
 IfMigrate command holds = Unit {0}
 
--- THE JOURNAL WAS MIGRATED, by the status, where its disk tells what it holds.
+-- THE JOURNAL WAS MIGRATED, by the status: the image of a journal was put, and that of the one on
+-- the disk where that tells what it holds.
 abbrev pub MigratedBy : Status → Option (List ℕ) → Option (List ℕ) → Option (List ℕ) → Type 0
 MigratedBy status told old new = (answer : Result ⊤ MigrateError)
-    × (status ≡ migrated_status answer) × IfSome told (λ bytes. Migrates bytes answer old new)
+    × (status ≡ migrated_status answer) × PutsImage answer old new
+    × IfSome told (λ bytes. Migrates bytes answer old new)
 
 -- ---- replay and drill
 
