@@ -1,17 +1,21 @@
 -- What went out and what waits, where a writer tells its bytes.
 use Rattle.std.proofs.Common.{◌≡◌, ◌⊎◌, ℕ, zero, suc, ◌+◌, ◌-◌, ◌≤◌, List, [], ◌∷◌, ◌++◌, length}
-use Rattle.std.proofs.Common.{take, drop, Option, Some, None, true, false, not, eqb, inl, inr, refl}
+use Rattle.std.proofs.Common.{Bool, ◌&&◌, take, drop, Option, Some, None, true, false, not, eqb, inl}
+use Rattle.std.proofs.Common.{inr, refl, IsOk}
 use Rattle.std.proofs.Common.{sym, ap, subst, ◌∙◌, arith, ◌<◌, cond, eq-eqb, ne_eqb, length-append}
 use Rattle.std.proofs.Common.{IfErr, IfOk, append_assoc, append-nil, take-append-drop, length-drop}
 use Rattle.std.proofs.Common.{Result, Ok, Err, OnOk}
 use Rattle.std.specs.Io.{WritesAtMost}
 use Rattle.std.specs.Io.KnownBytes.{WriteAppends}
 use Rattle.std.specs.Io.KnownBytes.{Keeps, Appends, append_known}
+use Rattle.std.proofs.lemmas.Bool.{eqb-true, eqb-false}
 use Rattle.std.proofs.lemmas.List.{drop-drop, take_all}
 use Rattle.std.proofs.KnownBytes.{Appends-nil, Appends-trans, Appends-kept, Keeps-refl, Keeps-trans}
 use Rattle.std.proofs.KnownBytes.{append_known-kept, append_known-moved, append_known-grown}
 use Rattle.std.proofs.KnownBytes.{append_known-passed}
-use Rattle.edge_logic.specs.Outbox.{StaysWhole, GrowsWhole, FrontWent, has_bytes}
+use Rattle.edge_logic.specs.declared.fault.Fault.{Fault}
+use Rattle.edge_logic.specs.declared.fault.Fault.TheVariants as fault
+use Rattle.edge_logic.specs.Outbox.{StaysWhole, GrowsWhole, FrontWent, has_bytes, IsSendFault}
 
 -- what `&bytes[from..]` is
 pub rest_is : (bytes : List ℕ) (from : ℕ)
@@ -70,7 +74,13 @@ front_appends a b (Ok n) xs ys h went =
     subst (λ l. Appends a b l) (take_in n xs ys h) went
 front_appends a b (Err error) xs ys h kept = kept
 
-pub ruleset of_front = (front_fits, front_appends, length-drop, length-append)
+-- where nothing waits, nothing comes first
+pub front_idle : {T E : Type 0} (result : Result T E) (xs ys : List ℕ)
+    → (xs ≡ [] → IsOk result) → has_bytes (xs ++ ys) ≡ false → IsOk result
+front_idle result [] ys idle none = idle refl
+front_idle result (x ∷ xs) ys idle none = absurd cc
+
+pub ruleset of_front = (front_fits, front_appends, front_idle, length-drop, length-append)
 
 pub appended : (gone : ℕ) (bytes behind piece : List ℕ)
     → drop gone bytes ++ (behind ++ piece) ≡ (drop gone bytes ++ behind) ++ piece
@@ -221,54 +231,82 @@ pub since_left : (count a now : ℕ) (old new : List ℕ) → count ≤ length o
 since_left count a now old new fits e =
     ap (λ b. cond b a now) (sym (took_some count old new fits e))
 
-has_some : (bytes : List ℕ) → has_bytes bytes ≡ true → 1 ≤ length bytes
-has_some [] h = absurd cc
-has_some (byte ∷ bytes) h = omega arith
+grown_alike : (b : Bool) (x y n : ℕ) → eqb x y ≡ b → eqb (x + n) (y + n) ≡ b
+grown_alike true x y n e = eq-eqb (x + n) (y + n) (ap (λ m. m + n) (eqb-true x y e))
+grown_alike false x y n e =
+    ne_eqb (x + n) (y + n) (λ same. eqb-false x y e (omega (arith, same)))
 
-some_has : (bytes : List ℕ) → 1 ≤ length bytes → has_bytes bytes ≡ true
-some_has [] h = absurd (omega (arith, h))
-some_has (byte ∷ bytes) h = refl
-
-late : (old mid new rest piece : List ℕ) (n a b c now : ℕ)
+since_sent : (old mid new rest piece : List ℕ) (n a b c now : ℕ)
     → length mid ≤ length old → b ≡ cond (eqb (length mid) (length old)) a now
-    → (has_bytes mid ≡ true → c ≡ b) → new ≡ mid ++ rest → rest ≡ drop n piece
-    → has_bytes old ≡ true → length new ≡ length old + length piece → c ≡ a
-late old mid new rest piece n a b c now less since kept is part some e =
-    let long : length new ≡ length mid + length rest = ap length is ∙ length-append mid rest in
-    let short : length rest ≤ length piece = omega (arith, ap length part, length-drop n piece) in
-    let same : length mid ≡ length old = omega (arith, long, short, less, e) in
-    let stays : b ≡ a =
-    since ∙ ap (λ t. cond t a now) (eq-eqb (length mid) (length old) same) in
-    kept (some_has mid (omega (arith, same, has_some old some))) ∙ stays
+    → (n ≡ 0) ⊎ (has_bytes mid ≡ false) → (has_bytes mid ≡ true → c ≡ b)
+    → (has_bytes mid ≡ false → c ≡ now) → new ≡ mid ++ rest → rest ≡ drop n piece
+    → c ≡ cond (has_bytes old && eqb (length new) (length old + length piece)) a now
+since_sent [] [] new rest piece n a b c now less since behind kept began is part = began refl
+since_sent (o ∷ os) [] new rest piece n a b c now less since behind kept began is part =
+    began refl ∙ sym (ap (λ t. cond t a now) (ne_eqb (length new) (length (o ∷ os) + length piece)
+    (λ same. omega (arith, same, ap length is, ap length part, length-drop n piece))))
+since_sent [] (m ∷ ms) new rest piece n a b c now less since behind kept began is part =
+    absurd (omega (arith, less))
+since_sent (o ∷ os) (m ∷ ms) new rest piece n a b c now less since (inr none) kept began is part =
+    absurd cc
+since_sent (o ∷ os) (m ∷ ms) new rest piece n a b c now less since (inl none) kept began is part =
+    let grown : length new ≡ length (m ∷ ms) + length rest =
+    ap length is ∙ length-append (m ∷ ms) rest in
+    let whole : length new ≡ length (m ∷ ms) + length piece =
+    omega (arith, grown, ap length part, length-drop n piece, none) in
+    kept refl ∙ since ∙ sym (ap (λ t. cond t a now)
+    (ap (λ k. eqb k (length (o ∷ os) + length piece)) whole
+    ∙ grown_alike _ (length (m ∷ ms)) (length (o ∷ os)) (length piece) refl))
 
-pub late_at_once : {T E : Type 0} (result : Result T E)
+pub since_at_once : {T E : Type 0} (result : Result T E)
     (old mid new rest piece : List ℕ) (n a b c now : ℕ)
     → length mid ≤ length old → b ≡ cond (eqb (length mid) (length old)) a now
-    → (has_bytes mid ≡ true → c ≡ b) → OnOk result (new ≡ mid ++ rest) → rest ≡ drop n piece
-    → OnOk result (has_bytes old ≡ true → length new ≡ length old + length piece → c ≡ a)
-late_at_once (Ok value) old mid new rest piece n a b c now less since kept is part =
-    late old mid new rest piece n a b c now less since kept is part
-late_at_once (Err error) old mid new rest piece n a b c now less since kept is part = tt
+    → (n ≡ 0) ⊎ (has_bytes mid ≡ false) → (has_bytes mid ≡ true → c ≡ b)
+    → OnOk result (has_bytes mid ≡ false → c ≡ now) → OnOk result (new ≡ mid ++ rest)
+    → rest ≡ drop n piece
+    → OnOk result (c ≡ cond (has_bytes old && eqb (length new) (length old + length piece)) a now)
+since_at_once (Ok value) old mid new rest piece n a b c now less since behind kept began is part =
+    since_sent old mid new rest piece n a b c now less since behind kept began is part
+since_at_once (Err error) old mid new rest piece n a b c now less since behind kept began is part =
+    tt
 
-pub late_together : (old mid new piece : List ℕ) (a b c now : ℕ)
-    → mid ≡ old ++ piece → (has_bytes old ≡ true → b ≡ a)
+cond_same : (b : Bool) (n : ℕ) → cond b n n ≡ n
+cond_same true n = refl
+cond_same false n = refl
+
+pub since_together : (old mid new piece : List ℕ) (a b c now : ℕ)
+    → mid ≡ old ++ piece → (has_bytes old ≡ true → b ≡ a) → (has_bytes old ≡ false → b ≡ now)
     → c ≡ cond (eqb (length new) (length mid)) b now
-    → has_bytes old ≡ true → length new ≡ length old + length piece → c ≡ a
-late_together old mid new piece a b c now is kept since some e =
-    let same : length new ≡ length mid = e ∙ sym (ap length is ∙ length-append old piece) in
-    since ∙ ap (λ t. cond t b now) (eq-eqb (length new) (length mid) same) ∙ kept some
+    → c ≡ cond (has_bytes old && eqb (length new) (length old + length piece)) a now
+since_together [] mid new piece a b c now is kept began since =
+    since ∙ ap (λ t. cond (eqb (length new) (length mid)) t now) (began refl)
+    ∙ cond_same (eqb (length new) (length mid)) now
+since_together (o ∷ os) mid new piece a b c now is kept began since =
+    since ∙ ap (λ t. cond (eqb (length new) (length mid)) t now) (kept refl)
+    ∙ ap (λ k. cond (eqb (length new) k) a now) (ap length is ∙ length-append (o ∷ os) piece)
+
+-- a piece was kept, and nothing was written
+pub since_kept : (old new piece : List ℕ) (a b now : ℕ)
+    → new ≡ old ++ piece → (has_bytes old ≡ true → b ≡ a) → (has_bytes old ≡ false → b ≡ now)
+    → b ≡ cond (has_bytes old && eqb (length new) (length old + length piece)) a now
+since_kept old new piece a b now is kept began =
+    since_together old new new piece a b b now is kept began
+    (sym (ap (λ t. cond t b now) (is_same new new refl)))
 
 -- room is wanting only where what waited and the piece are too much
-pub room_at_once : {T E : Type 0} (P : E → Type 0) (result : Result T E)
-    (old mid rest piece : List ℕ) (n room : ℕ)
+pub cause_at_once : {T : Type 0} (result : Result T Fault) (old mid rest piece : List ℕ) (n : ℕ)
     → length mid ≤ length old → rest ≡ drop n piece
-    → IfErr result (λ fault. P fault → room < length mid + length rest)
-    → IfErr result (λ fault. P fault → room < length old + length piece)
-room_at_once P (Ok value) old mid rest piece n room less part over = tt
-room_at_once P (Err error) old mid rest piece n room less part over =
-    λ p. omega (arith, less, over p, ap length part, length-drop n piece)
+    → IfErr result (IsSendFault (length mid + length rest))
+    → IfErr result (IsSendFault (length old + length piece))
+cause_at_once (Ok value) old mid rest piece n less part over = tt
+cause_at_once (Err fault.NoRoom) old mid rest piece n less part over =
+    omega (arith, less, over, ap length part, length-drop n piece)
+cause_at_once (Err (fault.System error)) old mid rest piece n less part over = tt
+cause_at_once (Err fault.NoMemory) old mid rest piece n less part over = tt
+cause_at_once (Err other) old mid rest piece n less part over = absurd over
 
 pub ruleset of_flush =
     (whole_behind, whole_kept, front_kept, front_at_once, less_left, since_left, is_same)
 
-pub ruleset of_together = (front_none, front_at, grows_alone, grows_then_stays, late_together)
+pub ruleset of_together =
+    (front_none, front_at, grows_alone, grows_then_stays, since_together, since_kept)

@@ -76,6 +76,7 @@ impl<P: Peer> Counted<P> {
     pub fn is_gone(&mut self) -> bool
         ensures polls { self.new.polls ≡ self.old.polls }
         ensures faults { self.new.faults ≡ self.old.faults }
+        ensures within { P.within self.new.peer ≡ P.within self.old.peer }
     {
         self.peer.is_gone()
     }
@@ -111,7 +112,13 @@ impl<P: Peer> Wire for Counted<P> {
         }
     }
 
-    fn send(&mut self, piece: &[u8]) -> Result<(), Failed> {
+    fn send(&mut self, piece: &[u8]) -> Result<(), Failed>
+        requires within { ForSome untold (λ r. is_within r ≡ true) }
+        ensures grows { SendGrows untold untold piece.now result }
+        ensures counted { self.new.polls ≡ self.old.polls }
+        ensures cause { HasCause self.old.faults self.new.faults result }
+        ensures within { P.within self.new.peer ≡ (P.within self.old.peer && is_ok result) }
+    {
         match self.peer.say(piece) {
             Ok(()) => Ok(()),
             Err(_) => {
@@ -121,7 +128,12 @@ impl<P: Peer> Wire for Counted<P> {
         }
     }
 
-    fn hang_up(&mut self) {
+    fn hang_up(&mut self)
+        ensures grows { HangUpGrows untold untold }
+        ensures counted { self.new.polls ≡ self.old.polls }
+        ensures faults { self.new.faults ≡ self.old.faults }
+        ensures within { P.within self.new.peer ≡ false }
+    {
         self.peer.hang_up();
     }
 }

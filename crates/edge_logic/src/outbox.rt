@@ -1,12 +1,12 @@
 //! What is kept of sends that the system did not take at once.
 
 ghost use Rattle.std.specs.Prelude.{◌≡◌, ◌⊎◌, ◌+◌, ◌≤◌, ◌<◌, ◌++◌, ◌==◌, [], length, drop};
-ghost use Rattle.std.specs.Prelude.{◌-◌, nat_le, OnOk, OnErr, IfOk, IfErr, not, false, true};
+ghost use Rattle.std.specs.Prelude.{◌-◌, nat_le, OnOk, OnErr, IsOk, IfOk, IfErr, not, false, true};
 ghost use Rattle.std.specs.Prelude.{if◌then◌else◌};
 ghost use Rattle.std.specs.Io.{WritesAtMost};
 ghost use Rattle.std.specs.Io.KnownBytes.{WriteAppends};
 ghost use Rattle.edge_logic.specs.Outbox.{StaysWhole, GrowsWhole, FrontWent, has_bytes};
-ghost use Rattle.edge_logic.specs.Outbox.{took_nothing};
+ghost use Rattle.edge_logic.specs.Outbox.{took_nothing, IsSendFault, since_behind};
 
 use crate::fault::Fault;
 use std::alloc::{AllocError, Global};
@@ -73,6 +73,7 @@ fn rest_of(bytes: &[u8], from: usize) -> &[u8]
 fn write_some<W: Write>(out: &mut W, bytes: &[u8]) -> io::Result<usize>
     ensures bound { WritesAtMost result bytes.now }
     ensures bytes { WriteAppends (W.contents out.old) (W.contents out.new) result bytes.now }
+    ensures idle { bytes.now ≡ [] → IsOk result }
 {
     if bytes.is_empty() {
         return Ok(0);
@@ -173,6 +174,7 @@ impl Outbox {
         ensures bound { WritesAtMost result self.now.bytes }
         ensures bytes { WriteAppends
             (W.contents out.old) (W.contents out.new) result self.now.bytes }
+        ensures idle { has_bytes self.now.bytes ≡ false → IsOk result }
         ensures bounded { length self.now.bytes ≤ ROOM }
     {
         write_some(out, rest_of(&self.bytes, self.gone))
@@ -181,7 +183,8 @@ impl Outbox {
     /// Writes what the system takes of what waits.
     ///
     /// # Errors
-    /// The system's error, and `WriteZero` where a writer takes nothing without an error.
+    /// The system's error, and `WriteZero` where a writer takes nothing without an error; none where
+    /// nothing waits.
     #[tactic(auto, using(crate::proofs::Kept::of_flush))]
     pub fn flush<W: Write>(&mut self, out: &mut W, now: u64) -> io::Result<()>
         ensures whole { StaysWhole
@@ -191,6 +194,7 @@ impl Outbox {
         ensures bounded { length self.new.bytes ≤ ROOM }
         ensures since { self.new.since ≡ (if length self.new.bytes == length self.old.bytes
             then self.old.since else now) }
+        ensures idle { has_bytes self.old.bytes ≡ false → IsOk result }
     {
         self.move_on();
         let count = self.write_front(out)?;
@@ -224,8 +228,8 @@ impl Outbox {
     // Keeps a piece.
     fn keep(&mut self, piece: &[u8], now: u64) -> Result<(), Fault>
         ensures kept { OnOk result (self.new.bytes ≡ self.old.bytes ++ piece.now) }
-        ensures room { IfErr result (λ fault. fault ≡ Fault.NoRoom
-            → ROOM < length self.old.bytes + length piece.now) }
+        ensures cause { IfErr result (IsSendFault
+            (length self.old.bytes + length piece.now)) }
         ensures same { OnErr result (self.new.bytes ≡ self.old.bytes) }
         ensures bounded { length self.new.bytes ≤ ROOM }
         ensures since { has_bytes self.old.bytes ≡ true → self.new.since ≡ self.old.since }
@@ -262,12 +266,10 @@ impl Outbox {
         ensures front { FrontWent
             (W.contents out.old) (W.contents out.new) (self.old.bytes ++ piece.now) }
         ensures bounded { length self.new.bytes ≤ ROOM }
-        ensures room { IfErr result (λ fault. fault ≡ Fault.NoRoom
-            → ROOM < length self.old.bytes + length piece.now) }
-        ensures late { OnOk result (has_bytes self.old.bytes ≡ true
-            → length self.new.bytes ≡ length self.old.bytes + length piece.now
-            → self.new.since ≡ self.old.since) }
-        ensures began { OnOk result (has_bytes self.old.bytes ≡ false → self.new.since ≡ now) }
+        ensures cause { IfErr result (IsSendFault
+            (length self.old.bytes + length piece.now)) }
+        ensures since { OnOk result (self.new.since
+            ≡ since_behind self.old self.new piece.now now) }
     {
         self.flush(out, now)?;
         let count = self.write_next(out, piece)?;
@@ -294,12 +296,10 @@ impl Outbox {
         ensures front { FrontWent
             (W.contents out.old) (W.contents out.new) (self.old.bytes ++ piece.now) }
         ensures bounded { length self.new.bytes ≤ ROOM }
-        ensures room { IfErr result (λ fault. fault ≡ Fault.NoRoom
-            → ROOM < length self.old.bytes + length piece.now) }
-        ensures late { OnOk result (has_bytes self.old.bytes ≡ true
-            → length self.new.bytes ≡ length self.old.bytes + length piece.now
-            → self.new.since ≡ self.old.since) }
-        ensures began { OnOk result (has_bytes self.old.bytes ≡ false → self.new.since ≡ now) }
+        ensures cause { IfErr result (IsSendFault
+            (length self.old.bytes + length piece.now)) }
+        ensures since { OnOk result (self.new.since
+            ≡ since_behind self.old self.new piece.now now) }
     {
         self.keep(piece, now)?;
         if !self.is_much(piece.len()) {
@@ -330,19 +330,18 @@ impl Outbox {
     /// Writes a piece behind what waits, or keeps what the system does not take now.
     ///
     /// # Errors
-    /// The system's error, and [`Fault::NoRoom`] where more than [`ROOM`] bytes would wait.
+    /// The system's error, [`Fault::NoRoom`] only where more than [`ROOM`] bytes would wait, and
+    /// [`Fault::NoMemory`].
     pub fn send<W: Write>(&mut self, out: &mut W, piece: &[u8], now: u64) -> Result<(), Fault>
         ensures sent { OnOk result (GrowsWhole (W.contents out.old) (W.contents out.new)
             self.old.bytes self.new.bytes piece.now) }
         ensures front { FrontWent
             (W.contents out.old) (W.contents out.new) (self.old.bytes ++ piece.now) }
         ensures bounded { length self.new.bytes ≤ ROOM }
-        ensures room { IfErr result (λ fault. fault ≡ Fault.NoRoom
-            → ROOM < length self.old.bytes + length piece.now) }
-        ensures late { OnOk result (has_bytes self.old.bytes ≡ true
-            → length self.new.bytes ≡ length self.old.bytes + length piece.now
-            → self.new.since ≡ self.old.since) }
-        ensures began { OnOk result (has_bytes self.old.bytes ≡ false → self.new.since ≡ now) }
+        ensures cause { IfErr result (IsSendFault
+            (length self.old.bytes + length piece.now)) }
+        ensures since { OnOk result (self.new.since
+            ≡ since_behind self.old self.new piece.now now) }
     {
         if self.take_turn() {
             self.send_at_once(out, piece, now)

@@ -1,7 +1,5 @@
-use Rattle.std.specs.Prelude.{◌≡◌}
-use Rattle.edge_logic.specs.declared.fault.Fault.TheVariants as fault
 use Rattle.edge_logic.proofs.Kept.{front_of_more, front_failed, front_next, sent_next}
-use Rattle.edge_logic.proofs.Kept.{late_at_once, room_at_once}
+use Rattle.edge_logic.proofs.Kept.{since_at_once, cause_at_once}
 use Rattle.edge_logic.proofs.outbox.Outbox.send_at_once.Goals as goal
 
 pub returns-in_err-flush-clause-front : goal.returns-in_err-flush-clause-front
@@ -31,16 +29,16 @@ returns-clause-front g c =
     c.flush.new.self.bytes c.args.piece.now c.in_ok-count.count c.flush.ensures.front
     c.flush.ensures.whole c.in_ok-count.ensures.bytes c.in_ok-count.ensures.behind
 
-pub returns-clause-room : goal.returns-clause-room
-returns-clause-room g c =
-    room_at_once (λ f. f ≡ fault.NoRoom) c.keep.result c.args.self.now.bytes
-    c.flush.new.self.bytes c.rest_of.result.now c.args.piece.now c.in_ok-count.count
-    134_217_728 c.flush.ensures.less c.rest_of.ensures c.keep.ensures.room
+pub returns-clause-cause : goal.returns-clause-cause
+returns-clause-cause g c =
+    cause_at_once c.keep.result c.args.self.now.bytes c.flush.new.self.bytes
+    c.rest_of.result.now c.args.piece.now c.in_ok-count.count c.flush.ensures.less
+    c.rest_of.ensures c.keep.ensures.cause
 
-pub returns-clause-late : goal.returns-clause-late
-returns-clause-late g c =
-    late_at_once c.keep.result c.args.self.now.bytes c.flush.new.self.bytes
+pub returns-clause-since : goal.returns-clause-since
+returns-clause-since g c =
+    since_at_once c.keep.result c.args.self.now.bytes c.flush.new.self.bytes
     c.keep.new.self.bytes c.rest_of.result.now c.args.piece.now c.in_ok-count.count
     c.args.self.now.since c.flush.new.self.since c.keep.new.self.since c.args.now
-    c.flush.ensures.less c.flush.ensures.since c.keep.ensures.since c.keep.ensures.kept
-    c.rest_of.ensures
+    c.flush.ensures.less c.flush.ensures.since c.in_ok-count.ensures.behind
+    c.keep.ensures.since c.keep.ensures.began c.keep.ensures.kept c.rest_of.ensures
