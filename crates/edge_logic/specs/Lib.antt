@@ -1,5 +1,6 @@
 pub mod BackOff
 pub mod EndTime
+pub mod Folder
 pub mod Head
 pub mod LogonMark
 pub mod Notice

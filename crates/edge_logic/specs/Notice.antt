@@ -1,10 +1,12 @@
 -- Own: the lines for the operator; docs/DECISIONS.md, "The edge".
-use Rattle.std.specs.Prelude.{ℕ, zero, suc, List, [], ◌++◌, codes, decimal, Some, None, min}
+use Rattle.std.specs.Prelude.{◌≡◌, ℕ, zero, suc, List, [], ◌++◌, codes, decimal, Some, None, min}
 use Rattle.std.specs.declared.option.Option.{Option}
 use Rattle.std.specs.Net.Text.{socket_text}
 use Rattle.typed_fields.specs.Stamp.{stamp_text, stamp_at}
 use Rattle.edge_logic.specs.declared.fault.Fault.{Fault}
 use Rattle.edge_logic.specs.declared.fault.Fault.TheVariants as fault
+use Rattle.edge_logic.specs.declared.journal.Denial.{Denial}
+use Rattle.edge_logic.specs.declared.journal.Denial.TheVariants as denial
 use Rattle.edge_logic.specs.declared.journal.Refusal.{Refusal}
 use Rattle.edge_logic.specs.declared.journal.Refusal.TheVariants as refusal
 use Rattle.edge_logic.specs.declared.notice.PeerName.{PeerName}
@@ -112,3 +114,16 @@ refusal_text (refusal.OldFormat path) =
     codes "fixgate: journal " ++ path.now ++ codes " is of format 1: migrate makes it format 2"
 refusal_text (refusal.NotOld path) =
     codes "fixgate: journal " ++ path.now ++ codes " is not of format 1, which alone migrates"
+
+-- the line of why a call on the journal at this path failed; a reason of the system is the system's
+-- text
+abbrev pub TellsDenial : List ℕ → Denial → List ℕ → Type 0
+TellsDenial path denial.InUse line =
+    line ≡ codes "fixgate: journal " ++ path ++ codes " is in use"
+TellsDenial path denial.NoFile line =
+    line ≡ codes "fixgate: journal " ++ path ++ codes ": is no regular file"
+TellsDenial path denial.NoJournal line =
+    line ≡ codes "fixgate: journal " ++ path
+    ++ codes ": is no journal: it begins with neither byte 0 nor byte 1"
+TellsDenial path (denial.System error) line =
+    (reason : List ℕ) × (line ≡ codes "fixgate: journal " ++ path ++ codes ": " ++ reason)

@@ -1,12 +1,15 @@
 //! What the journal's file needs beside the file: how it may begin, its counts, why a call on it
 //! failed, and the lines of that.
 
-ghost use Rattle.std.specs.Prelude.{◌≡◌, ◌++◌, ℕ, List, IfOk, MatchResult, IsErr, codes};
+ghost use Rattle.std.specs.Prelude.{◌≡◌, ◌++◌, IfOk, MatchResult, IsErr, codes, None};
 ghost use Rattle.std.specs.Prelude.{string_bytes};
+ghost use Rattle.std.specs.Option.{option_copied};
+ghost use Rattle.std.specs.Result.{result_err};
 ghost use Rattle.std.specs.Io.{ReadsAtMost};
-ghost use Rattle.std.specs.declared.io.Error.{Error};
 ghost use Rattle.outside.specs.Causes.{HasCause, next_count, faults_after};
+ghost use Rattle.edge_logic.specs.Folder.{folder_of};
 ghost use Rattle.edge_logic.specs.Head.{may_be_journal, is_of_format_1};
+ghost use Rattle.edge_logic.specs.Notice.{TellsDenial};
 ghost use Rattle.edge_logic.specs.declared.journal.Denial.TheVariants as denial;
 
 use outside::Failed;
@@ -91,8 +94,10 @@ pub fn stop_path(alloc: Global, journal: &str) -> Result<String, AllocError>
     format!(in alloc; "{journal}.stop")
 }
 
-/// The path of the folder that a file lies in.
-pub fn folder(path: &str) -> &str {
+/// The path of the folder that a file lies in: `.` where the path of the file names none.
+pub fn folder(path: &str) -> &str
+    ensures { result.now ≡ folder_of path.now }
+{
     match Path::new(path).parent() {
         Some(parent) if !parent.as_str().is_empty() => parent.as_str(),
         _ => ".",
@@ -148,16 +153,7 @@ impl Denial {
     /// # Errors
     /// For want of memory alone.
     pub fn line(&self, alloc: Global, path: &str) -> Result<String, AllocError>
-        ensures in_use { self.now ≡ denial.InUse → IfOk result (λ line. string_bytes line
-            ≡ codes "fixgate: journal " ++ path.now ++ codes " is in use") }
-        ensures no_file { self.now ≡ denial.NoFile → IfOk result (λ line. string_bytes line
-            ≡ codes "fixgate: journal " ++ path.now ++ codes ": is no regular file") }
-        ensures no_journal { self.now ≡ denial.NoJournal → IfOk result (λ line. string_bytes line
-            ≡ codes "fixgate: journal " ++ path.now
-            ++ codes ": is no journal: it begins with neither byte 0 nor byte 1") }
-        ensures system { (error : Error) → self.now ≡ denial.System error → IfOk result (λ line.
-            (reason : List ℕ) × (string_bytes line
-            ≡ codes "fixgate: journal " ++ path.now ++ codes ": " ++ reason)) }
+        ensures { IfOk result (λ line. TellsDenial path.now self.now (string_bytes line)) }
     {
         match self {
             Denial::InUse => format!(in alloc; "fixgate: journal {path} is in use"),
@@ -189,13 +185,13 @@ impl Model for Tally {
 
     ghost Value = { Counts };
 
-    ghost view = { λ t. record { reads = t.reads; faults = t.faults } };
+    ghost view = { λ t. record { reads = t.reads; faults = t.faults; denial = t.denial } };
 }
 
 impl Tally {
     /// No call was made.
     pub fn new() -> Tally
-        ensures { result ≡ record { reads = 0; faults = 0 } }
+        ensures { result ≡ record { reads = 0; faults = 0; denial = None } }
     {
         Tally {
             reads: 0,
@@ -219,6 +215,7 @@ impl Tally {
         ensures cause { HasCause self.old.faults self.new.faults result }
         ensures faults { self.new.faults ≡ faults_after answer self.old.faults }
         ensures reads { self.new.reads ≡ self.old.reads }
+        ensures denial { self.new.denial ≡ result_err answer }
         ensures value { MatchResult answer (λ value. result ≡ Ok value) (λ _. IsErr result) }
     {
         match answer {
@@ -235,7 +232,9 @@ impl Tally {
     }
 
     /// Why the last call failed, where it did.
-    pub fn denial(&self) -> Option<&Denial> {
+    pub fn denial(&self) -> Option<&Denial>
+        ensures { option_copied result ≡ self.now.denial }
+    {
         self.denial.as_ref()
     }
 }

@@ -1,1 +1,2 @@
+pub mod JournalFile
 pub mod Stage

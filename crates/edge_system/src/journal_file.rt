@@ -1,7 +1,8 @@
 //! The journal's file: made for its owner alone and locked for this process, or only read.
 
-ghost use Rattle.std.specs.Prelude.{◌≡◌, None};
+ghost use Rattle.std.specs.Prelude.{◌≡◌, None, IfOk};
 ghost use Rattle.std.specs.Io.{ReadsAtMost};
+ghost use Rattle.edge_system.specs.JournalFile.{TellsRefusal, is_no_journal};
 
 use edge_logic::{Denial, HEAD, Tally, fill, folder, may_be_journal};
 use outside::{Disk, Failed};
@@ -139,7 +140,7 @@ impl<'a, R: Files<File = File>> Lazy<'a, R> {
 impl<'a, R: Files<File = File>> JournalFile<'a, R> {
     // The file at this path.
     fn with_access(rt: &'a R, path: &'a str, access: Access) -> JournalFile<'a, R>
-        ensures { result.tally ≡ record { reads = 0; faults = 0 } }
+        ensures { result.tally ≡ record { reads = 0; faults = 0; denial = None } }
     {
         JournalFile {
             lazy: Lazy {
@@ -154,7 +155,7 @@ impl<'a, R: Files<File = File>> JournalFile<'a, R> {
 
     /// The file at this path, which is opened, or made, at the first call that needs it.
     pub fn new(rt: &'a R, path: &'a str) -> JournalFile<'a, R>
-        ensures { result.tally ≡ record { reads = 0; faults = 0 } }
+        ensures { result.tally ≡ record { reads = 0; faults = 0; denial = None } }
     {
         JournalFile::with_access(rt, path, Access::Write)
     }
@@ -162,7 +163,7 @@ impl<'a, R: Files<File = File>> JournalFile<'a, R> {
     /// The file at this path, to be read alone, also while a gateway has it: it is neither made nor
     /// locked, and a write fails.
     pub fn to_read(rt: &'a R, path: &'a str) -> JournalFile<'a, R>
-        ensures { result.tally ≡ record { reads = 0; faults = 0 } }
+        ensures { result.tally ≡ record { reads = 0; faults = 0; denial = None } }
     {
         JournalFile::with_access(rt, path, Access::Read)
     }
@@ -172,7 +173,9 @@ impl<'a, R: Files<File = File>> JournalFile<'a, R> {
     ///
     /// # Errors
     /// For want of memory alone.
-    pub fn refusal(&self, alloc: Global) -> Result<Option<String>, AllocError> {
+    pub fn refusal(&self, alloc: Global) -> Result<Option<String>, AllocError>
+        ensures { IfOk result (TellsRefusal self.now.lazy.path.now self.now.tally.denial) }
+    {
         match self.tally.denial() {
             Some(denial) => Ok(Some(denial.line(alloc, self.lazy.path)?)),
             None => Ok(None),
@@ -180,7 +183,9 @@ impl<'a, R: Files<File = File>> JournalFile<'a, R> {
     }
 
     /// Whether the last call failed because the file is no journal.
-    pub fn is_no_journal(&self) -> bool {
+    pub fn is_no_journal(&self) -> bool
+        ensures { result ≡ is_no_journal self.now.tally.denial }
+    {
         matches!(self.tally.denial(), Some(Denial::NoJournal))
     }
 }
