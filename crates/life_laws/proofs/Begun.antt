@@ -72,8 +72,7 @@ module _ (answers : List Entry → (active : Bool) → Option Asked → Option W
       → IsLawful answers names entries → AreSides s → numbers_of s
       ≡ numbers_after first_numbers entries → IsJustified names entries Client cl
       → IsJustified names entries Venue vl → Holds answers names
-      (record { entries = entries; sessions = s; client_up = false; venue_up = false }) cl vl
-      [] []
+      (record { entries = entries; sessions = s; client_up = false; venue_up = false }) cl vl [] []
   begins entries s cl vl lawful sides numbers cj vj =
       let counts = counts-after [] entries lawful none in
       record {

@@ -88,8 +88,7 @@ module _ (answers : List Entry → (active : Bool) → Option Asked → Option W
     abbrev pub LastLeaves : DayLeft → (Option ℕ → Reads → World → List ℕ → Type 0) → Type 0
     LastLeaves left Last = (began : Option ℕ) (reads : Reads) (before : World) (moments : List ℕ)
         (cl vl : List Connection) → Holds answers names before cl vl [] []
-        → last_read cl ≡ reads.client → last_read vl ≡ reads.venue
-        → Last began reads before moments
+        → last_read cl ≡ reads.client → last_read vl ≡ reads.venue → Last began reads before moments
         → Leaves answers names left.entries (transcript_from cl left.added.client)
         (transcript_from vl left.added.venue)
 

@@ -89,8 +89,7 @@ module _ (names : Names) (window : ℕ) (before : List Entry) (s : Sessions) (ev
     next_is : (side : Side) → next_out side (numbers_of s) ≡ length (all_placed side before) + 1
     next_is side = ap (next_out side) agree ∙ counted side
 
-    goes : (side : Side) (entry : Entry) → d.entry ≡ Some entry
-        → OutsGoOn side (numbers_of s) entry
+    goes : (side : Side) (entry : Entry) → d.entry ≡ Some entry → OutsGoOn side (numbers_of s) entry
     goes Client entry is =
         ((decisions_continue names window s event now words d are decides).goes_on entry
         is).client_out

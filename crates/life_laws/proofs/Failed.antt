@@ -17,8 +17,7 @@ use Rattle.life_laws.specs.Ends.{UpTo, TurnUpTo, RoundUpTo, LifeUpTo}
 use Rattle.life_laws.proofs.Line.{links-both}
 use Rattle.life_laws.proofs.World.{leaves, stops-leave}
 use Rattle.life_laws.proofs.Turns.{Queue, queue_after, holds-join, all-keep}
-use Rattle.life_laws.proofs.OneTurn.{queue-client, far-client, queue-venue, far-venue}
-use Rattle.life_laws.proofs.OneTurn.{client-polled, venue-polled}
+use Rattle.life_laws.proofs.OneTurn.{queue, client-polled, venue-polled}
 use Rattle.life_laws.proofs.Lives.{Between, client-last, venue-last, client-between, rounds-keep}
 
 module _ (answers : List Entry → (active : Bool) → Option Asked → Option Words → Type 0)
@@ -100,7 +99,8 @@ module _ (answers : List Entry → (active : Bool) → Option Asked → Option W
         (events-come (events_of Client f.came f.bodies ++ Tick Client ∷ [])
         (with_up Client (up_after before.client_up f.came) before) f.rest
         (transcript_from cl (wire.Poll f.came ∷ [])) vl f.bodies [] polled
-        (queue-client f.came reads.client f.bodies f.new).0 (far-client f.came f.bodies).0 f.events)
+        (queue Client Client f.came reads.client f.bodies f.new).0
+        (queue Venue Client f.came reads.client f.bodies f.new).0 f.events)
 
     venue-comes : (reads : Reads) (before : World) (added : Added) (cl vl : List Connection)
         → Between answers names window reads before cl vl
@@ -113,7 +113,8 @@ module _ (answers : List Entry → (active : Bool) → Option Asked → Option W
         (events-come (events_of Venue f.came f.bodies ++ Tick Venue ∷ [])
         (with_up Venue (up_after before.venue_up f.came) before) f.rest cl
         (transcript_from vl (wire.Poll f.came ∷ [])) [] f.bodies polled
-        (far-venue f.came f.bodies).0 (queue-venue f.came reads.venue f.bodies f.new).0 f.events)
+        (queue Client Venue f.came reads.venue f.bodies f.new).0
+        (queue Venue Venue f.came reads.venue f.bodies f.new).0 f.events)
 
     last-comes : (reads : Reads) (before : World) (added : Added) (cl vl : List Connection)
         → Between answers names window reads before cl vl

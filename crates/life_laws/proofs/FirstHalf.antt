@@ -21,7 +21,7 @@ use Rattle.std.proofs.lemmas.List.{map-append, take_at, drop_at, take-append-le}
 use Rattle.frame_grammar.specs.Frame.{IsFrame}
 use Rattle.frame_grammar.specs.Found.{Found, Whole, Short, Broken, found}
 use Rattle.frame_grammar.specs.Cut.{Piece, bytes_of, piece_at}
-use Rattle.frame_grammar.specs.declared.frame.Kind.TheVariants.{Fix42, Fix44, Fixt11}
+use Rattle.frame_grammar.specs.declared.frame.Kind.TheVariants.{Fix42}
 use Rattle.frame_grammar.proofs.Grow.{Grows, found_grows}
 use Rattle.frame_grammar.proofs.Begins.{found_frame}
 use Rattle.life_laws.proofs.Grown.{forms_join}
@@ -47,8 +47,7 @@ front_short kind body frame front more is joined some = at (found kind front)
 
 found_nil : (kind : Kind) → found kind [] ≡ Short
 found_nil Fix42 = refl
-found_nil Fix44 = refl
-found_nil Fixt11 = refl
+found_nil kind = refl
 
 -- a frame has a byte
 frame_some : (kind : Kind) (body frame : List ℕ) → IsFrame kind body frame → 1 ≤ length frame

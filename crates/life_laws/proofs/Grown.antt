@@ -146,8 +146,7 @@ module _ (side : Side) where
         firsts_are outs at (earlier
             ++ p ∷ []) (subst (λ n. Numbered n outs) (omega (
               arith,
-              length-append earlier
-                  (p ∷ []),
+              length-append earlier (p ∷ []),
             )) numbered.1) entries
             (is ∙ sym (append_assoc earlier (p ∷ []) (map (λ
             (out : Out). record { out = out; at = at }) outs))),

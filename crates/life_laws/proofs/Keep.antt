@@ -11,7 +11,7 @@ use Rattle.order_meaning.specs.declared.names.Names.{Names}
 use Rattle.pair_entries.specs.declared.entry.Out.{Out}
 use Rattle.pair_entries.specs.declared.entry.Entry.{Entry}
 use Rattle.pair_journal.specs.Numbers.{is_side, outs_to, Numbered}
-use Rattle.event_decisions.specs.Event.{Event, Opened, Frame, Closed, Tick, End}
+use Rattle.event_decisions.specs.Event.{Event, Frame}
 use Rattle.event_decisions.specs.Decide.{Repeat, Decision}
 use Rattle.wires.specs.Wire.{WireCall, Connection}
 use Rattle.life_laws.specs.Justified.{transcript_from, first_numbers_of, EachOnce, IsSublist}
@@ -54,7 +54,6 @@ split side event pending next = go event next
   where
     go : (e : Event) → IsNext side e pending → pending ≡ dealt_with side e
         ++ pending_after side e pending
-    go (Opened s) h = refl
     go (Frame s body) h = at (is_side side s) refl
       where
         at : (b : Bool) → is_side side s ≡ b → pending ≡ dealt_with side (Frame s body)
@@ -67,9 +66,7 @@ split side event pending next = go event next
             ++ (if b then is.0 else body ∷ is.0)) (sym e) refl)
         at false e = subst (λ b. pending ≡ (if b then body ∷ [] else [])
             ++ (if b then without_first pending else pending)) (sym e) refl
-    go (Closed s) h = refl
-    go (Tick s) h = refl
-    go (End s) h = refl
+    go other h = refl
 
 module _ (side : Side) (before : List Entry) (event : Event) (now : ℕ) (d : Decision)
     (adds : Extends before event now d) where

@@ -21,24 +21,21 @@ use Rattle.life_laws.proofs.Line.{links-both}
 
 write-last : (wrote : List ℕ) (links : List Connection) → last_read (change_last
     (add_written wrote) links) ≡ last_read links
-write-last wrote [] = refl
-write-last wrote (link ∷ []) = refl
-write-last wrote (link ∷ next ∷ []) = refl
 write-last wrote (link ∷ next ∷ other ∷ links) = write-last wrote (next ∷ other ∷ links)
+write-last wrote links = refl
 
 sends-last : (up : Bool) (pieces : List (List ℕ)) (steps : List WireCall) (after : Bool)
     (links : List Connection) → Sends up pieces steps after
     → last_read (transcript_from links steps) ≡ last_read links
-sends-last true [] steps after links sends = ap (λ s. last_read (transcript_from links s)) sends.0
-sends-last false [] steps after links sends = ap (λ s. last_read (transcript_from links s)) sends.0
-sends-last false (p ∷ pieces) steps after links sends = ap (λ s. last_read
-    (transcript_from links s)) sends.0
 sends-last true (p ∷ pieces) steps after links (inl more) =
     ap (λ s. last_read (transcript_from links s)) more.1
     ∙ sends-last true pieces more.0 after (change_last (add_written p) links) more.2
     ∙ write-last p links
 sends-last true (p ∷ pieces) steps after links (inr cut) = ap (λ s. last_read
     (transcript_from links s)) cut.1 ∙ write-last (take cut.0 p) links
+sends-last false (p ∷ pieces) steps after links sends =
+    ap (λ s. last_read (transcript_from links s)) sends.0
+sends-last up pieces steps after links sends = ap (λ s. last_read (transcript_from links s)) sends.0
 
 acts-last : (up : Bool) (pieces : List (List ℕ)) (hang_up : Bool) (steps : List WireCall)
     (after : Bool) (links : List Connection) → Acts up pieces hang_up steps after
@@ -112,7 +109,6 @@ pub poll-last : (frame : Form → List ℕ) (links : List Connection) (forms : L
     (up : Bool) (came : Came) → may_come up came ≡ true → (up ≡ true
     → LastIsWhole frame links forms)
     → last_read (transcript_from links (wire.Poll came ∷ [])) ≡ read_after (last_read links) came
-poll-last frame links forms up wire.Nothing may whole = refl
 poll-last frame links forms up wire.Opened may whole = open-last links
 poll-last frame links forms up (wire.Bytes bytes) may whole = go links (whole
     (bytes_up up bytes may))
@@ -121,5 +117,4 @@ poll-last frame links forms up (wire.Bytes bytes) may whole = go links (whole
         → last_read (change_last (add_read bytes) l) ≡ last_read l ++ bytes
     go [] h = absurd h
     go (link ∷ l) h = bytes-last bytes link l
-poll-last frame links forms up wire.Closed may whole = refl
-poll-last frame links forms up wire.Broken may whole = refl
+poll-last frame links forms up came may whole = refl

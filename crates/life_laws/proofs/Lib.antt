@@ -18,4 +18,4 @@ mod Begun
 mod Failed
 mod Filled
 mod Answered
-mod Received
+pub mod Received

@@ -75,8 +75,7 @@ module _ (names : Names) (side : Side) (entries : List Entry) where
   shows-write f wrote missing is form (link ∷ next ∷ links) (fs ∷ gs ∷ more) shows whole = (
     shows.0,
     shows.1,
-    shows-write f wrote missing is form (next ∷ links)
-        (gs ∷ more) shows.2 whole,
+    shows-write f wrote missing is form (next ∷ links) (gs ∷ more) shows.2 whole,
   )
 
   whole-write : (f : Form) (wrote : List ℕ) → wrote ≡ T f
@@ -184,8 +183,7 @@ module _ (names : Names) (side : Side) (entries : List Entry) where
     forms = s.forms;
     shows = s.shows;
     once = s.once;
-    whole = λ e.
-        absurd (cc e);
+    whole = λ e. absurd (cc e);
     done = s.done;
     bodies = s.bodies;
     tooks = s.tooks;

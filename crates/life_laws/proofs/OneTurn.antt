@@ -1,11 +1,12 @@
 -- A side's turn keeps all that holds between turns.
-use Rattle.std.proofs.Common.{◌≡◌, ℕ, Bool, true, List, [], ◌∷◌, ◌++◌, refl, sym, subst}
+use Rattle.std.proofs.Common.{◌≡◌, ℕ, Bool, true, List, [], ◌∷◌, ◌++◌, refl, sym, ap, subst, ◌∙◌}
 use Rattle.std.specs.Prelude.{map}
 use Rattle.std.specs.declared.option.Option.{Option}
+use Rattle.order_meaning.specs.declared.Side.{Side}
 use Rattle.order_meaning.specs.declared.Side.TheVariants.{Client, Venue}
 use Rattle.order_meaning.specs.declared.names.Names.{Names}
 use Rattle.pair_entries.specs.declared.entry.Entry.{Entry}
-use Rattle.event_decisions.specs.Event.{Opened, Frame, Closed, Tick}
+use Rattle.event_decisions.specs.Event.{Event, Frame, Tick}
 use Rattle.event_decisions.specs.Decide.{Asked, Words}
 use Rattle.wires.specs.Wire as wire
 use Rattle.wires.specs.Wire.{Came, Connection, may_come}
@@ -16,82 +17,44 @@ use Rattle.life_laws.specs.Turn.{on_side, with_up, up_after, LastRead, AreNew, e
 use Rattle.life_laws.proofs.Turns.{Queue, queue_after, holds-join, all-keep}
 use Rattle.life_laws.proofs.Polls.{poll-keeps}
 
-own-client : (bodies : List (List ℕ)) → Queue Client (map (Frame Client) bodies
-    ++ Tick Client ∷ []) bodies × (queue_after Client (map (Frame Client) bodies
-    ++ Tick Client ∷ []) bodies ≡ [])
-own-client [] = ((tt, tt), refl)
-own-client (b ∷ bodies) = let more = own-client bodies in (((λ e. (bodies, refl)), more.0), more.1)
+-- the bodies of a side wait for its own events alone
+abbrev waits : (side at : Side) → List (List ℕ) → List (List ℕ)
+waits Client Client bodies = bodies
+waits Venue Venue bodies = bodies
+waits side at bodies = []
 
-other-client : (bodies : List (List ℕ)) → Queue Venue (map (Frame Client) bodies
-    ++ Tick Client ∷ []) [] × (queue_after Venue (map (Frame Client) bodies ++ Tick Client ∷ []) []
-    ≡ [])
-other-client [] = ((tt, tt), refl)
-other-client (b ∷ bodies) = let more = other-client bodies in
-    (((λ e. absurd (cc e)), more.0), more.1)
+none-wait : (side at : Side) → waits side at [] ≡ []
+none-wait Client Client = refl
+none-wait Venue Venue = refl
+none-wait side at = refl
 
-pub queue-client : (came : Came) (read : List ℕ) (bodies : List (List ℕ))
-    → AreNew Client read came bodies → Queue Client (events_of Client came bodies
-    ++ Tick Client ∷ []) bodies × (queue_after Client (events_of Client came bodies
-    ++ Tick Client ∷ []) bodies ≡ [])
-queue-client wire.Nothing read bodies new = subst (λ l. Queue Client (Tick Client ∷ []) l
-    × (queue_after Client (Tick Client ∷ []) l ≡ [])) (sym new) ((tt, tt), refl)
-queue-client wire.Opened read bodies new = subst (λ l. Queue Client
-    (Opened Client ∷ Tick Client ∷ []) l × (queue_after Client (Opened Client ∷ Tick Client ∷ []) l
-    ≡ [])) (sym new) ((tt, (tt, tt)), refl)
-queue-client (wire.Bytes bytes) read bodies new = own-client bodies
-queue-client wire.Closed read bodies new = subst (λ l. Queue Client
-    (Closed Client ∷ Tick Client ∷ []) l × (queue_after Client (Closed Client ∷ Tick Client ∷ []) l
-    ≡ [])) (sym new) ((tt, (tt, tt)), refl)
-queue-client wire.Broken read bodies new = subst (λ l. Queue Client
-    (Closed Client ∷ Tick Client ∷ []) l × (queue_after Client (Closed Client ∷ Tick Client ∷ []) l
-    ≡ [])) (sym new) ((tt, (tt, tt)), refl)
+-- each event is that of the next body that waits, and behind them none waits
+abbrev Empties : Side → List Event → List (List ℕ) → Type 0
+Empties side events pending = Queue side events pending × (queue_after side events pending ≡ [])
 
-pub far-client : (came : Came) (bodies : List (List ℕ)) → Queue Venue (events_of Client came bodies
-    ++ Tick Client ∷ []) [] × (queue_after Venue (events_of Client came bodies
-    ++ Tick Client ∷ []) [] ≡ [])
-far-client wire.Nothing bodies = ((tt, tt), refl)
-far-client wire.Opened bodies = ((tt, (tt, tt)), refl)
-far-client (wire.Bytes bytes) bodies = other-client bodies
-far-client wire.Closed bodies = ((tt, (tt, tt)), refl)
-far-client wire.Broken bodies = ((tt, (tt, tt)), refl)
+frames-empty : (side at : Side) (bodies : List (List ℕ))
+    → Empties side (map (Frame at) bodies ++ Tick at ∷ []) (waits side at bodies)
+frames-empty Client Client (b ∷ bodies) =
+    let more = frames-empty Client Client bodies in (((λ e. (bodies, refl)), more.0), more.1)
+frames-empty Venue Venue (b ∷ bodies) =
+    let more = frames-empty Venue Venue bodies in (((λ e. (bodies, refl)), more.0), more.1)
+frames-empty side at (b ∷ bodies) =
+    let more = frames-empty side at bodies in (((λ e. absurd (cc e)), more.0), more.1)
+frames-empty Client Client [] = ((tt, tt), refl)
+frames-empty Venue Venue [] = ((tt, tt), refl)
+frames-empty side at [] = ((tt, tt), refl)
 
-own-venue : (bodies : List (List ℕ)) → Queue Venue (map (Frame Venue) bodies
-    ++ Tick Venue ∷ []) bodies × (queue_after Venue (map (Frame Venue) bodies
-    ++ Tick Venue ∷ []) bodies ≡ [])
-own-venue [] = ((tt, tt), refl)
-own-venue (b ∷ bodies) = let more = own-venue bodies in (((λ e. (bodies, refl)), more.0), more.1)
-
-other-venue : (bodies : List (List ℕ)) → Queue Client (map (Frame Venue) bodies
-    ++ Tick Venue ∷ []) [] × (queue_after Client (map (Frame Venue) bodies ++ Tick Venue ∷ []) []
-    ≡ [])
-other-venue [] = ((tt, tt), refl)
-other-venue (b ∷ bodies) = let more = other-venue bodies in (((λ e. absurd (cc e)), more.0), more.1)
-
-pub queue-venue : (came : Came) (read : List ℕ) (bodies : List (List ℕ))
-    → AreNew Venue read came bodies → Queue Venue (events_of Venue came bodies
-    ++ Tick Venue ∷ []) bodies × (queue_after Venue (events_of Venue came bodies
-    ++ Tick Venue ∷ []) bodies ≡ [])
-queue-venue wire.Nothing read bodies new = subst (λ l. Queue Venue (Tick Venue ∷ []) l
-    × (queue_after Venue (Tick Venue ∷ []) l ≡ [])) (sym new) ((tt, tt), refl)
-queue-venue wire.Opened read bodies new = subst (λ l. Queue Venue
-    (Opened Venue ∷ Tick Venue ∷ []) l × (queue_after Venue (Opened Venue ∷ Tick Venue ∷ []) l
-    ≡ [])) (sym new) ((tt, (tt, tt)), refl)
-queue-venue (wire.Bytes bytes) read bodies new = own-venue bodies
-queue-venue wire.Closed read bodies new = subst (λ l. Queue Venue
-    (Closed Venue ∷ Tick Venue ∷ []) l × (queue_after Venue (Closed Venue ∷ Tick Venue ∷ []) l
-    ≡ [])) (sym new) ((tt, (tt, tt)), refl)
-queue-venue wire.Broken read bodies new = subst (λ l. Queue Venue
-    (Closed Venue ∷ Tick Venue ∷ []) l × (queue_after Venue (Closed Venue ∷ Tick Venue ∷ []) l
-    ≡ [])) (sym new) ((tt, (tt, tt)), refl)
-
-pub far-venue : (came : Came) (bodies : List (List ℕ)) → Queue Client (events_of Venue came bodies
-    ++ Tick Venue ∷ []) [] × (queue_after Client (events_of Venue came bodies
-    ++ Tick Venue ∷ []) [] ≡ [])
-far-venue wire.Nothing bodies = ((tt, tt), refl)
-far-venue wire.Opened bodies = ((tt, (tt, tt)), refl)
-far-venue (wire.Bytes bytes) bodies = other-venue bodies
-far-venue wire.Closed bodies = ((tt, (tt, tt)), refl)
-far-venue wire.Broken bodies = ((tt, (tt, tt)), refl)
+-- the events of a poll, as each side sees them
+pub queue : (side at : Side) (came : Came) (read : List ℕ) (bodies : List (List ℕ))
+    → AreNew at read came bodies
+    → Empties side (events_of at came bodies ++ Tick at ∷ []) (waits side at bodies)
+queue side at (wire.Bytes bytes) read bodies new = frames-empty side at bodies
+queue side at wire.Nothing read bodies new =
+    subst (Empties side (Tick at ∷ [])) (sym (ap (waits side at) new ∙ none-wait side at))
+    ((tt, tt), refl)
+queue side at came read bodies new =
+    subst (Empties side (events_of at came bodies ++ Tick at ∷ []))
+    (sym (ap (waits side at) new ∙ none-wait side at)) ((tt, (tt, tt)), refl)
 
 module _ (answers : List Entry → (active : Bool) → Option Asked → Option Words → Type 0)
     (names : Names) (before : World) (cl vl : List Connection)
@@ -131,14 +94,13 @@ module _ (answers : List Entry → (active : Bool) → Option Asked → Option W
 
   module _ (window now : ℕ) (read : List ℕ) (after : World) (added : Added) where
     pub client-keeps : (turn : Turn answers names window Client read before now added after)
-        → may_come before.client_up turn.came ≡ true
-        → (before.client_up ≡ true → LastRead cl read)
+        → may_come before.client_up turn.came ≡ true → (before.client_up ≡ true → LastRead cl read)
         → Holds answers names after (transcript_from cl added.client)
         (transcript_from vl added.venue) [] []
     client-keeps turn may last =
         let events = events_of Client turn.came turn.bodies ++ Tick Client ∷ [] in
-        let own = queue-client turn.came read turn.bodies turn.new in
-        let far = far-client turn.came turn.bodies in
+        let own = queue Client Client turn.came read turn.bodies turn.new in
+        let far = queue Venue Client turn.came read turn.bodies turn.new in
         let mid = with_up Client (up_after before.client_up turn.came) before in
         let polled = client-polled turn.came read turn.bodies may last turn.new in
         let now-cl = transcript_from cl (wire.Poll turn.came ∷ []) in
@@ -152,14 +114,13 @@ module _ (answers : List Entry → (active : Bool) → Option Asked → Option W
         (transcript_from vl turn.rest.venue) (queue_after Client events turn.bodies) l) far.1 all))
 
     pub venue-keeps : (turn : Turn answers names window Venue read before now added after)
-        → may_come before.venue_up turn.came ≡ true
-        → (before.venue_up ≡ true → LastRead vl read)
+        → may_come before.venue_up turn.came ≡ true → (before.venue_up ≡ true → LastRead vl read)
         → Holds answers names after (transcript_from cl added.client)
         (transcript_from vl added.venue) [] []
     venue-keeps turn may last =
         let events = events_of Venue turn.came turn.bodies ++ Tick Venue ∷ [] in
-        let own = queue-venue turn.came read turn.bodies turn.new in
-        let far = far-venue turn.came turn.bodies in
+        let own = queue Venue Venue turn.came read turn.bodies turn.new in
+        let far = queue Client Venue turn.came read turn.bodies turn.new in
         let mid = with_up Venue (up_after before.venue_up turn.came) before in
         let polled = venue-polled turn.came read turn.bodies may last turn.new in
         let now-vl = transcript_from vl (wire.Poll turn.came ∷ []) in

@@ -59,21 +59,19 @@ module _ (names : Names) (side : Side) (entries : List Entry) where
       → ShowsAll names entries side links forms → ShowsAll names entries side (links
       ++ new_link ∷ []) (forms ++ [] ∷ [])
   shows-open [] [] shows = (tt, ([], refl), tt)
-  shows-open [] (fs ∷ forms) shows = absurd shows
-  shows-open (link ∷ links) [] shows = absurd shows
   shows-open (link ∷ links) (fs ∷ forms) shows = (shows.0, shows.1, shows-open links forms shows.2)
+  shows-open links forms shows = absurd shows
 
   whole-open : (links : List Connection) (forms : List (List Form))
       → ShowsAll names entries side links forms → LastIsWhole T (links ++ new_link ∷ []) (forms
       ++ [] ∷ [])
   whole-open [] [] shows = refl
-  whole-open [] (fs ∷ forms) shows = absurd shows
-  whole-open (link ∷ links) [] shows = absurd shows
   whole-open (link ∷ []) (fs ∷ []) shows = refl
   whole-open (link ∷ []) (fs ∷ gs ∷ forms) shows = absurd shows.2
   whole-open (link ∷ next ∷ links) (fs ∷ []) shows = absurd shows.2
-  whole-open (link ∷ next ∷ links) (fs ∷ gs ∷ forms) shows = whole-open (next ∷ links)
-      (gs ∷ forms) shows.2
+  whole-open (link ∷ next ∷ links) (fs ∷ gs ∷ forms) shows =
+      whole-open (next ∷ links) (gs ∷ forms) shows.2
+  whole-open links forms shows = absurd shows
 
   shows-bytes : (bytes : List ℕ) (links : List Connection) (forms : List (List Form))
       → ShowsAll names entries side links forms → ShowsAll names entries side (change_last
@@ -84,8 +82,7 @@ module _ (names : Names) (side : Side) (entries : List Entry) where
   shows-bytes bytes (link ∷ next ∷ links) (fs ∷ forms) shows = (
     shows.0,
     shows.1,
-    shows-bytes bytes
-        (next ∷ links) forms shows.2,
+    shows-bytes bytes (next ∷ links) forms shows.2,
   )
 
   whole-bytes : (bytes : List ℕ) (links : List Connection) (forms : List (List Form))
@@ -129,23 +126,12 @@ module _ (names : Names) (side : Side) (entries : List Entry) where
         ∙ ap (λ l. l ++ bodies) (s.bodies ∙ append-nil s.done);
     tooks = s.tooks;
   }
-  poll-keeps links up wire.Closed read bodies may last new s = record {
+  poll-keeps links up came read bodies may last new s = record {
     forms = s.forms;
     shows = s.shows;
     once = s.once;
     whole = λ e. absurd (cc e);
     done = s.done;
-    bodies = s.bodies
-        ∙ ap (λ l. s.done ++ l) (sym new);
-    tooks = s.tooks;
-  }
-  poll-keeps links up wire.Broken read bodies may last new s = record {
-    forms = s.forms;
-    shows = s.shows;
-    once = s.once;
-    whole = λ e. absurd (cc e);
-    done = s.done;
-    bodies = s.bodies
-        ∙ ap (λ l. s.done ++ l) (sym new);
+    bodies = s.bodies ∙ ap (λ l. s.done ++ l) (sym new);
     tooks = s.tooks;
   }

@@ -113,13 +113,12 @@ module _ (side : Side) (names : Names) (msg_type : List ℕ) (number first now :
 
   behind_is : (resend again : Bool) → behind_header (all resend again) ≡ behind_header fields
   behind_is true true = refl
-  behind_is true false = refl
   behind_is false true = refl
-  behind_is false false = refl
+  behind_is resend again = refl
 
 -- ---- an out
 
-content_read : (fields : List Field) → AreFields None fields → length fields ≤ 248
+pub content_read : (fields : List Field) → AreFields None fields → length fields ≤ 248
     → fields_of (body_of fields) ≡ fields
 content_read fields good few =
     let body = body_of fields in
@@ -183,7 +182,7 @@ out_back names side p now again s =
 in_range_clear : (d : ℕ) → IsInRange 48 57 d → is_soh d ≡ false
 in_range_clear d h = grind (arith, nat_tests)
 
-decimal_clear : (n : ℕ) → n < 2 ^ 64 → list_any is_soh (decimal n) ≡ false
+pub decimal_clear : (n : ℕ) → n < 2 ^ 64 → list_any is_soh (decimal n) ≡ false
 decimal_clear n lt = list_any_none is_soh (decimal n) (All-from_get_or (λ (b : ℕ). is_soh b ≡ false)
     (decimal n) 0 (λ k within. in_range_clear (get_or (decimal n) k 0)
     (digits_decimal own n lt k within)))

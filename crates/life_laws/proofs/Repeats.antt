@@ -76,8 +76,7 @@ module _ (entries : List Entry) (side : Side) where
         ≡ 1 + (n - 1) = numbered_at 1 (all_placed side entries) (n - 1) at.0 numbered at.1 in (
           at.0,
           to_place (all_placed side entries) n (Some at.0) low at.1,
-          omega
-              (arith, number, low),
+          omega (arith, number, low),
         )
 
     pub repeats_are : (count : ℕ) (run : Option Run) (n now : ℕ) → IsRun run n → 1 ≤ n

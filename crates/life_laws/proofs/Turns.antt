@@ -64,8 +64,7 @@ module _ (answers : List Entry → (active : Bool) → Option Asked → Option W
     → Type 0) (names : Names) (window : ℕ) (now : ℕ) where
   pub one-keeps : (before after : World) (event : Event) (added : Added) (cl vl : List Connection)
       (cp vp : List (List ℕ)) → Holds answers names before cl vl cp vp → IsNext Client event cp
-      → IsNext Venue event vp
-      → HappensOrNot answers names window before event now added after
+      → IsNext Venue event vp → HappensOrNot answers names window before event now added after
       → Holds answers names after (transcript_from cl added.client)
       (transcript_from vl added.venue) (pending_after Client event cp)
       (pending_after Venue event vp)
@@ -99,8 +98,7 @@ module _ (answers : List Entry → (active : Bool) → Option Asked → Option W
       → Queue Client events cp → Queue Venue events vp
       → AllHappen answers names window before events now added after
       → Holds answers names after (transcript_from cl added.client)
-      (transcript_from vl added.venue) (queue_after Client events cp)
-      (queue_after Venue events vp)
+      (transcript_from vl added.venue) (queue_after Client events cp) (queue_after Venue events vp)
   all-keep [] before after added cl vl cp vp h cq vq all =
       subst (λ (w : World). Holds answers names w (transcript_from cl added.client)
       (transcript_from vl added.venue) cp vp) (sym all.1)

@@ -30,8 +30,7 @@ push : (answers : List Entry → (active : Bool) → Option Asked → Option Wor
     → LawfulAfter answers names before entries → IsDecided answers names (before ++ entries) e
     → LawfulAfter answers names before (entries ++ e ∷ [])
 push answers names before [] e so_far is = (
-  subst (λ l. IsDecided answers names l e)
-      (append-nil before) is,
+  subst (λ l. IsDecided answers names l e) (append-nil before) is,
   tt,
 )
 push answers names before (x ∷ entries) e so_far is = (
@@ -44,16 +43,14 @@ push answers names before (x ∷ entries) e so_far is = (
 numbers-standing : (c v : Bool) (s : Sessions) → numbers_of
     (record { client = standing c s.client; venue = standing v s.venue }) ≡ numbers_of s
 numbers-standing true true s = refl
-numbers-standing true false s = refl
 numbers-standing false true s = refl
-numbers-standing false false s = refl
+numbers-standing c v s = refl
 
 sides-standing : (c v : Bool) (s : Sessions) → AreSides s
     → AreSides (record { client = standing c s.client; venue = standing v s.venue })
 sides-standing true true s is = record { client = is.client; venue = is.venue }
-sides-standing true false s is = record { client = is.client; venue = is.venue }
 sides-standing false true s is = record { client = is.client; venue = is.venue }
-sides-standing false false s is = record { client = is.client; venue = is.venue }
+sides-standing c v s is = record { client = is.client; venue = is.venue }
 
 -- a decision's entry is lawful behind those before it
 lawful : (answers : List Entry → (active : Bool) → Option Asked → Option Words
@@ -117,10 +114,8 @@ pub leaves : (answers : List Entry → (active : Bool) → Option Asked → Opti
     → Holds answers names w cl vl cp vp → Leaves answers names w.entries cl vl
 leaves answers names w cl vl cp vp h = record {
   lawful = h.lawful;
-  client = justified names Client
-      w.entries cl w.client_up cp h.client;
-  venue = justified names Venue w.entries vl w.venue_up vp
-      h.venue;
+  client = justified names Client w.entries cl w.client_up cp h.client;
+  venue = justified names Venue w.entries vl w.venue_up vp h.venue;
 }
 
 module _ (answers : List Entry → (active : Bool) → Option Asked → Option Words
