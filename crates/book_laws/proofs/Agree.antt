@@ -236,8 +236,7 @@ module _ (J : List Entry) (goes : Each Goes [] J) where
           named-earlier k is = not-both (names r out) is (n.names_none refusal e k m out f)
 
           go : (a : Option ℕ) (id c : Option (List ℕ)) → r.number_named ≡ a → r.id_named ≡ id
-              → out.cl_ord_id ≡ c
-              → names_by a id out.number c ≡ true → names r out ≡ true → ⊥
+              → out.cl_ord_id ≡ c → names_by a id out.number c ≡ true → names r out ≡ true → ⊥
           go (Some k) id c ea eid ec na is =
               let o = keeps.number r n.from.takes refusal k ea in
               let before = in-flat (given far) h.past o.0 o.1 in

@@ -65,8 +65,7 @@ module _ {K A M : Type 0} (step : K → M → K) (read : A → M) (test : A → 
   abbrev after_each : K → A → K
   after_each k x = if test x then step k (read x) else k
 
-  passing : (k : K) (xs : List A)
-      → fold step k (map read (filter test xs)) ≡ fold after_each k xs
+  passing : (k : K) (xs : List A) → fold step k (map read (filter test xs)) ≡ fold after_each k xs
   passing k [] = refl
   passing k (x ∷ xs) = by (test x) (passing (step k (read x)) xs) (passing k xs)
     where
@@ -173,8 +172,7 @@ module _ (n : ℕ) where
       after_entry learned e = after_said side learned (list_any (goes_below side n) e.outs) e.took
 
       entries_follow : (next : Next) (before entries : List Entry) (learned : Learned side)
-          → AreNumbered before → AreEntries next entries
-          → LawfulAfter Answers names before entries
+          → AreNumbered before → AreEntries next entries → LawfulAfter Answers names before entries
           → fold after_placed learned (all_placed side entries) ≡ fold after_entry learned entries
       entries_follow next before [] learned numbered sound lawful = refl
       entries_follow next before (e ∷ entries) learned numbered sound lawful =

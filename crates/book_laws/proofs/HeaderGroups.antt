@@ -34,6 +34,11 @@ has_behind tag apart (f ∷ fields) = by (is_in_header f) refl (has_behind tag a
         (is_other header_tags f.0 tag in_it apart))
     by false out rest = ap (λ (b : Bool). (f.0 == tag) || b) rest
 
+pub keep : (f : Field) (fields : List Field) (h : Bool) → is_in_header f ≡ h
+    → behind_header (f ∷ fields) ≡ cond (not h) (f ∷ behind_header fields) (behind_header fields)
+keep f fields h is = ap (λ (b : Bool). cond (not b) (f ∷ behind_header fields)
+    (behind_header fields)) is
+
 -- what passes wherever a field of the header stands
 while_behind : (p : Field → Bool) → ((f : Field) → is_in_header f ≡ true → p f ≡ true)
     → (fields : List Field)
@@ -121,14 +126,16 @@ module _ (g : GroupTags) (a : IsApart g) where
   abbrev pub AreSkipped : List Field → Type 0
   AreSkipped fields = AllByRecursion (λ f. is_one_of g.skipped f.0 ≡ true) fields
 
-  run_cons : (f : Field) (fields : List Field)
-      → run g (f ∷ fields) ≡ cond (is_inside g f.0) (f ∷ run g fields) []
-  run_cons f fields = take_while-cons (λ (x : Field). is_inside g x.0) f fields
+  run_by : (f : Field) (fields : List Field) {b : Bool} → is_inside g f.0 ≡ b
+      → run g (f ∷ fields) ≡ cond b (f ∷ run g fields) []
+  run_by f fields is = take_while-cons (λ (x : Field). is_inside g x.0) f fields
+      ∙ ap (λ (b : Bool). cond b (f ∷ run g fields) []) is
 
-  keep : (f : Field) (fields : List Field) (h : Bool) → is_in_header f ≡ h
-      → behind_header (f ∷ fields) ≡ cond (not h) (f ∷ behind_header fields) (behind_header fields)
-  keep f fields h is = ap (λ (b : Bool). cond (not b) (f ∷ behind_header fields)
-      (behind_header fields)) is
+  opened_by : (f : Field) (before : List Field) (c i : Bool) → (f.0 == g.count) ≡ c
+      → is_inside g f.0 ≡ i → is_opened g (f ∷ before)
+      ≡ (if c then true else (if i then is_opened g before else false))
+  opened_by f before c i counts inside =
+      λ j. if counts j then true else (if inside j then is_opened g before else false)
 
   -- ---- a group that was opened
 
@@ -153,26 +160,18 @@ module _ (g : GroupTags) (a : IsApart g) where
           ap (is_inside g) (eqb-true f.0 g.count counts) ∙ a.count in
           record {
             opened = ap (is_opened g) (keep f before false at)
-                ∙ ap (λ (c : Bool). if c then true else (if is_inside g f.0
-                then is_opened g (behind_header before) else false)) counts;
-            same = ap (run g) (keep f before false at) ∙ run_cons f (behind_header before)
-                ∙ ap (λ (b : Bool). cond b (f ∷ run g (behind_header before)) []) none
-                ∙ sym (run_cons f before
-                ∙ ap (λ (b : Bool). cond b (f ∷ run g before) []) none);
+                ∙ opened_by f (behind_header before) true false counts none;
+            same = ap (run g) (keep f before false at) ∙ run_by f (behind_header before) none
+                ∙ sym (run_by f before none);
           }
       by false false true at counts inside is rest =
           let r = rest is in
           record {
             opened = ap (is_opened g) (keep f before false at)
-                ∙ ap (λ (c : Bool). if c then true else (if is_inside g f.0
-                then is_opened g (behind_header before) else false)) counts
-                ∙ ap (λ (i : Bool). if i then is_opened g (behind_header before) else false) inside
-                ∙ r.opened;
-            same = ap (run g) (keep f before false at) ∙ run_cons f (behind_header before)
-                ∙ ap (λ (b : Bool). cond b (f ∷ run g (behind_header before)) []) inside
+                ∙ opened_by f (behind_header before) false true counts inside ∙ r.opened;
+            same = ap (run g) (keep f before false at) ∙ run_by f (behind_header before) inside
                 ∙ ap (λ (l : List Field). f ∷ l) r.same
-                ∙ sym (run_cons f before
-                ∙ ap (λ (b : Bool). cond b (f ∷ run g before) []) inside);
+                ∙ sym (run_by f before inside);
           }
       by false false false at counts inside is rest = absurd (cc is)
 
@@ -250,12 +249,6 @@ module _ (g : GroupTags) (a : IsApart g) where
   AreLoose fields =
       AllByRecursion (λ f. is_inside g f.0 ≡ true → is_one_of g.skipped f.0 ≡ true) fields
 
-  opened_by : (f : Field) (before : List Field) (c i : Bool) → (f.0 == g.count) ≡ c
-      → is_inside g f.0 ≡ i → is_opened g (f ∷ before)
-      ≡ (if c then true else (if i then is_opened g before else false))
-  opened_by f before c i counts inside =
-      λ j. if counts j then true else (if inside j then is_opened g before else false)
-
   closed_loose : (before fields : List Field) → is_opened g before ≡ false
       → IsFine before fields → has_tag g.count fields ≡ false → AreLoose fields
   closed_loose before [] closed fine none = tt
@@ -290,12 +283,9 @@ module _ (g : GroupTags) (a : IsApart g) where
           → AreSkipped (run g (cond (not h) (f ∷ behind_header fields) (behind_header fields)))
       by true i inside rest = rest
       by false true inside rest =
-          subst AreSkipped (sym (run_cons f (behind_header fields)
-          ∙ ap (λ (b : Bool). cond b (f ∷ run g (behind_header fields)) []) inside))
-          (loose.0 inside, rest)
+          subst AreSkipped (sym (run_by f (behind_header fields) inside)) (loose.0 inside, rest)
       by false false inside rest =
-          subst AreSkipped (sym (run_cons f (behind_header fields)
-          ∙ ap (λ (b : Bool). cond b (f ∷ run g (behind_header fields)) []) inside)) tt
+          subst AreSkipped (sym (run_by f (behind_header fields) inside)) tt
 
   -- what a run has more without the header
   pub record RunsOn (fields : List Field) : Type 0 where
@@ -320,31 +310,25 @@ module _ (g : GroupTags) (a : IsApart g) where
       by true true at inside p going closing = absurd (cc (inside, a.inside f.0 at))
       by true false at inside p going closing = record {
         more = run g (behind_header fields);
-        skipped = loose_run fields
-            (closing (opened_by f before false false p.0 inside) p.1);
+        skipped = loose_run fields (closing (opened_by f before false false p.0 inside) p.1);
         is = ap (run g) (keep f fields true at)
             ∙ ap (λ (l : List Field). l ++ run g (behind_header fields))
-            (sym (run_cons f fields ∙ ap (λ (b : Bool). cond b (f ∷ run g fields) []) inside));
+            (sym (run_by f fields inside));
       }
       by false true at inside p going closing =
           let r = going (opened_by f before false true p.0 inside ∙ opened) p.1 in
           record {
             more = r.more;
             skipped = r.skipped;
-            is = ap (run g) (keep f fields false at) ∙ run_cons f (behind_header fields)
-                ∙ ap (λ (b : Bool). cond b (f ∷ run g (behind_header fields)) []) inside
+            is = ap (run g) (keep f fields false at) ∙ run_by f (behind_header fields) inside
                 ∙ ap (λ (l : List Field). f ∷ l) r.is
-                ∙ ap (λ (l : List Field). l ++ r.more)
-                (sym (run_cons f fields
-                ∙ ap (λ (b : Bool). cond b (f ∷ run g fields) []) inside));
+                ∙ ap (λ (l : List Field). l ++ r.more) (sym (run_by f fields inside));
           }
       by false false at inside p going closing = record {
         more = [];
         skipped = tt;
-        is = ap (run g) (keep f fields false at) ∙ run_cons f (behind_header fields)
-            ∙ ap (λ (b : Bool). cond b (f ∷ run g (behind_header fields)) []) inside
-            ∙ sym (append-nil (run g (f ∷ fields)) ∙ run_cons f fields
-            ∙ ap (λ (b : Bool). cond b (f ∷ run g fields) []) inside);
+        is = ap (run g) (keep f fields false at) ∙ run_by f (behind_header fields) inside
+            ∙ sym (append-nil (run g (f ∷ fields)) ∙ run_by f fields inside);
       }
 
   -- ---- how many lines are begun
@@ -377,8 +361,7 @@ module _ (g : GroupTags) (a : IsApart g) where
 
   counted_open : (f : Field) (before : List Field) → (f.0 == g.count) ≡ true
       → is_opened g (f ∷ before) ≡ true
-  counted_open f before counts = ap (λ (c : Bool). if c then true
-      else (if is_inside g f.0 then is_opened g before else false)) counts
+  counted_open f before counts = opened_by f before true (is_inside g f.0) counts refl
 
   counted_has : (f : Field) (before : List Field) → (f.0 == g.count) ≡ true
       → has_tag g.count (f ∷ before) ≡ true

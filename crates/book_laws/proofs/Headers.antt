@@ -3,7 +3,7 @@ use Rattle.std.proofs.Common.{◌≡◌, ℕ, ◌==◌, ◌&&◌, ◌||◌, not,
 use Rattle.std.proofs.Common.{◌∷◌, ◌++◌, codes, Option, Some, None, refl, sym, ap, subst, ◌∙◌, map}
 use Rattle.std.proofs.Common.{inl, inr, if◌then◌else◌}
 use Rattle.std.specs.Prelude.{cond, find, unwrap_or}
-use Rattle.std.specs.List.{flat_map, list_all}
+use Rattle.std.specs.List.{AllByRecursion, flat_map, list_all}
 use Rattle.std.specs.Option.{option_map}
 use Rattle.std.specs.Result.{result_ok}
 use Rattle.std.proofs.lemmas.Bool.{eqb-true}
@@ -11,14 +11,13 @@ use Rattle.typed_fields.specs.MonthYear.{read_month_year}
 use Rattle.field_groups.specs.Field.{Field}
 use Rattle.message_tables.specs.declared.table_fault.TableFault.{TableFault}
 use Rattle.message_tables.specs.declared.table_fault.TableFault.TheVariants as faults
-use Rattle.message_tables.specs.Tables.{Cell, Said, Test, Stands, Is, Need, Required}
-use Rattle.message_tables.specs.Tables.{Optional, Lenient, Fixed, When, Row, Item, One, Party}
-use Rattle.message_tables.specs.Tables.{Lines}
-use Rattle.message_tables.specs.Tables.{RepeatingGroup, Table, GroupTags, ◌>>=◌, all_rows, cell_of}
-use Rattle.message_tables.specs.Tables.{cells_of, first_of, flag_of, group_says, groups_in}
-use Rattle.message_tables.specs.Tables.{groups_of, has_tag, holds, is_listed, is_needed, is_one_of}
-use Rattle.message_tables.specs.Tables.{lines_in, lines_of, or_else, party_in, passes, row_at, says}
-use Rattle.message_tables.specs.Tables.{tags_in, text_of, value_at, Role, Tag, Verdict}
+use Rattle.message_tables.specs.Tables.{Cell, Said, Test, Stands, Is, Need, When, Row, Item, One}
+use Rattle.message_tables.specs.Tables.{Party, Lines, RepeatingGroup, Table, GroupTags, ◌>>=◌}
+use Rattle.message_tables.specs.Tables.{all_rows, cell_of, cells_of, first_of, flag_of, group_says}
+use Rattle.message_tables.specs.Tables.{groups_in, groups_of, has_tag, holds, is_listed, is_needed}
+use Rattle.message_tables.specs.Tables.{is_one_of, lines_in, lines_of, or_else, party_in, passes}
+use Rattle.message_tables.specs.Tables.{row_at, says, tags_in, text_of, value_at, Role, Tag}
+use Rattle.message_tables.specs.Tables.{Verdict}
 use Rattle.message_tables.specs.FirstFault.{Marked, Placed, allowed, mark_of, beyond, by_row}
 use Rattle.message_tables.specs.FirstFault.{fault_if, first_fault}
 use Rattle.message_tables.specs.FirstFault.{group_tags_in, group_tags_of, in_groups, is_passed}
@@ -26,15 +25,14 @@ use Rattle.message_tables.specs.FirstFault.{marked, message_in, misplaced, missi
 use Rattle.message_tables.specs.FirstFault.{once_in, placed_from, twice, wrong, wrong_version}
 use Rattle.value_kinds.specs.ValueKind as kinds
 use Rattle.value_kinds.specs.ValueKind.{spelling}
-use Rattle.row_values.specs.Kinds.{Kind, Value, Byte, DayOf, MonthBeside, TimeBeside, Version}
-use Rattle.row_values.specs.Kinds.{counted, filled, in_month, is_at_close, judge, month_beside}
-use Rattle.row_values.specs.Kinds.{verdict_of}
+use Rattle.row_values.specs.Kinds.{Kind, DayOf, MonthBeside, TimeBeside, counted, filled, in_month}
+use Rattle.row_values.specs.Kinds.{is_at_close, judge, month_beside, verdict_of}
 use Rattle.sound_laws.proofs.Each.{both, not_true}
 use Rattle.sound_laws.proofs.Stages.{is_other}
 use Rattle.life_laws.specs.Receiver.{behind_header, header_tags, is_in_header}
 use Rattle.book_laws.specs.Keeps.{In}
-use Rattle.book_laws.proofs.HeaderGroups.{AreSkipped, IsApart, IsFine, IsOnce, fine_behind}
-use Rattle.book_laws.proofs.HeaderGroups.{first_like, group_behind, has_behind, is_apart}
+use Rattle.book_laws.proofs.HeaderGroups.{AreLike, AreSkipped, IsApart, IsFine, IsOnce, fine_behind}
+use Rattle.book_laws.proofs.HeaderGroups.{first_like, group_behind, has_behind, is_apart, keep}
 use Rattle.book_laws.proofs.HeaderGroups.{lines_like, map_like}
 use Rattle.book_laws.proofs.Tooks.{behind_value}
 
@@ -43,38 +41,32 @@ use Rattle.book_laws.proofs.Tooks.{behind_value}
 abbrev is_behind : ℕ → Bool
 is_behind tag = not (is_one_of header_tags tag)
 
-abbrev test_behind : Test → Bool
-test_behind (Stands tag) = is_behind tag
-test_behind (Is tag listed) = is_behind tag
+-- tests, needs and kinds that count on no other tags than these
+module _ (tags : ℕ → Bool) where
+  abbrev test_on : Test → Bool
+  test_on (Stands tag) = tags tag
+  test_on (Is tag listed) = tags tag
 
--- a need, and a kind, that count on no field of the header
-abbrev need_behind : Need → Bool
-need_behind (When condition) = list_all (list_all test_behind) condition
-need_behind need = true
+  abbrev need_on : Need → Bool
+  need_on (When condition) = list_all (list_all test_on) condition
+  need_on need = true
 
-abbrev kind_behind : Kind → Bool
-kind_behind (DayOf month) = is_behind month
-kind_behind (MonthBeside date) = is_behind date
-kind_behind (TimeBeside ord_type) = is_behind ord_type
-kind_behind kind = true
+  abbrev kind_on : Kind → Bool
+  kind_on (DayOf month) = tags month
+  kind_on (MonthBeside date) = tags date
+  kind_on (TimeBeside ord_type) = tags ord_type
+  kind_on kind = true
 
--- and those that count on no other field at all
-abbrev need_alone : Need → Bool
-need_alone (When condition) = false
-need_alone need = true
-
-abbrev kind_alone : Kind → Bool
-kind_alone (DayOf month) = false
-kind_alone (MonthBeside date) = false
-kind_alone (TimeBeside ord_type) = false
-kind_alone kind = true
+abbrev none_at : ℕ → Bool
+none_at tag = false
 
 abbrev member_alone : List ℕ → Row Kind → Bool
 member_alone skipped row =
-    not (is_one_of skipped row.tag) && (need_alone row.need && kind_alone row.kind)
+    not (is_one_of skipped row.tag) && (need_on none_at row.need && kind_on none_at row.kind)
 
 abbrev item_behind : List ℕ → Item Kind → Bool
-item_behind once (One row) = is_behind row.tag && (need_behind row.need && kind_behind row.kind)
+item_behind once (One row) =
+    is_behind row.tag && (need_on is_behind row.need && kind_on is_behind row.kind)
 item_behind once (Party role) = true
 item_behind once (Lines group) =
     group_behind (tags_in group) && (is_one_of once group.count
@@ -83,7 +75,7 @@ item_behind once (Lines group) =
 -- THE TEST of a table
 abbrev pub table_behind : Table Kind → Bool
 table_behind t = list_all (item_behind (once_in t)) t.items
-    && list_all (λ row. kind_behind row.kind) (all_rows t)
+    && list_all (λ row. kind_on is_behind row.kind) (all_rows t)
 
 -- ---- lists
 
@@ -120,60 +112,52 @@ module _ {X : Type 0} (f : X → Option TableFault) where
   first_same : (xs ys : List X) → xs ≡ ys → first_of f xs ≡ first_of f ys
   first_same xs ys same = ap (first_of f) same
 
-keep : (f : Field) (fields : List Field) (h : Bool) → is_in_header f ≡ h
-    → behind_header (f ∷ fields) ≡ cond (not h) (f ∷ behind_header fields) (behind_header fields)
-keep f fields h is = ap (λ (b : Bool). cond (not b) (f ∷ behind_header fields)
-    (behind_header fields)) is
-
 -- ---- what is asked of other fields
 
--- fields that say the same behind the header
-record SayAlike (a b : List Field) : Type 0 where
-  value : (tag : ℕ) → is_behind tag ≡ true → value_at tag a ≡ value_at tag b
-  has : (tag : ℕ) → is_behind tag ≡ true → has_tag tag a ≡ has_tag tag b
+-- fields that say the same at these tags
+record SayAlike (tags : ℕ → Bool) (a b : List Field) : Type 0 where
+  value : (tag : ℕ) → tags tag ≡ true → value_at tag a ≡ value_at tag b
+  has : (tag : ℕ) → tags tag ≡ true → has_tag tag a ≡ has_tag tag b
 
-say_alike : (fields : List Field) → SayAlike (behind_header fields) fields
+say_alike : (fields : List Field) → SayAlike is_behind (behind_header fields) fields
 say_alike fields = record {
   value = λ tag apart. behind_value tag (not_true _ apart) fields;
   has = λ tag apart. has_behind tag (not_true _ apart) fields;
 }
 
-module _ (a b : List Field) (alike : SayAlike a b) where
-  passes_same : (test : Test) → test_behind test ≡ true → passes a test ≡ passes b test
+none_alike : (a b : List Field) → SayAlike none_at a b
+none_alike a b = record { value = λ tag h. absurd (cc h); has = λ tag h. absurd (cc h) }
+
+module _ (tags : ℕ → Bool) (a b : List Field) (alike : SayAlike tags a b) where
+  passes_same : (test : Test) → test_on tags test ≡ true → passes a test ≡ passes b test
   passes_same (Stands tag) h = alike.has tag h
   passes_same (Is tag listed) h = ap (is_listed listed) (alike.value tag h)
 
-  tests_same : (tests : List Test) → list_all test_behind tests ≡ true
+  tests_same : (tests : List Test) → list_all (test_on tags) tests ≡ true
       → list_all (passes a) tests ≡ list_all (passes b) tests
   tests_same [] h = refl
   tests_same (test ∷ tests) h =
-      let p = both (test_behind test) (list_all test_behind tests) h in
+      let p = both (test_on tags test) (list_all (test_on tags) tests) h in
       let here = passes_same test p.0 in
       let rest = tests_same tests p.1 in
       λ i. here i && rest i
 
-  holds_same : (condition : List (List Test)) → list_all (list_all test_behind) condition ≡ true
+  holds_same : (condition : List (List Test)) → list_all (list_all (test_on tags)) condition ≡ true
       → holds condition a ≡ holds condition b
   holds_same [] h = refl
   holds_same (tests ∷ more) h =
-      let p = both (list_all test_behind tests) (list_all (list_all test_behind) more) h in
+      let p = both (list_all (test_on tags) tests) (list_all (list_all (test_on tags)) more) h in
       let here = tests_same tests p.0 in
       let rest = holds_same more p.1 in
       λ i. here i || rest i
 
-  need_same : (need : Need) → need_behind need ≡ true → is_needed need a ≡ is_needed need b
-  need_same Required h = refl
-  need_same Optional h = refl
-  need_same Lenient h = refl
-  need_same (Fixed text) h = refl
+  need_same : (need : Need) → need_on tags need ≡ true → is_needed need a ≡ is_needed need b
   need_same (When condition) h = holds_same condition h
+  need_same need h = refl
 
-  judge_same : (kind : Kind) → kind_behind kind ≡ true
+  judge_same : (kind : Kind) → kind_on tags kind ≡ true
       → (text : List ℕ) → judge a kind text ≡ judge b kind text
   unfolding judge
-  judge_same (Value kind) h text = refl
-  judge_same (Byte listed) h text = refl
-  judge_same Version h text = refl
   judge_same (DayOf month) h text =
       ap (λ (v : Said). in_month (v >>= (λ t. result_ok (read_month_year t)))
       (verdict_of (spelling kinds.DayOfMonth text))) (alike.value month h)
@@ -183,30 +167,7 @@ module _ (a b : List Field) (alike : SayAlike a b) where
   judge_same (TimeBeside ord_type) h text =
       ap (λ (v : Said). counted (not (is_at_close text) || is_listed (codes "12") v)
       (verdict_of (spelling (kinds.Code (codes "01234567")) text))) (alike.value ord_type h)
-
-  cell_same : (row : Row Kind) → is_behind row.tag ≡ true → kind_behind row.kind ≡ true
-      → cell_of judge a row ≡ cell_of judge b row
-  cell_same row tag kind =
-      let value = alike.value row.tag tag in
-      λ i. (Tag row.tag, says row.need (λ text. judge_same row.kind kind text i) (value i))
-
-alone_need : (need : Need) → need_alone need ≡ true → (a b : List Field)
-    → is_needed need a ≡ is_needed need b
-alone_need Required h a b = refl
-alone_need Optional h a b = refl
-alone_need Lenient h a b = refl
-alone_need (Fixed text) h a b = refl
-alone_need (When condition) h a b = absurd (cc h)
-
-alone_judge : (kind : Kind) → kind_alone kind ≡ true → (a b : List Field) (text : List ℕ)
-    → judge a kind text ≡ judge b kind text
-unfolding judge
-alone_judge (Value kind) h a b text = refl
-alone_judge (Byte listed) h a b text = refl
-alone_judge Version h a b text = refl
-alone_judge (DayOf month) h a b text = absurd (cc h)
-alone_judge (MonthBeside date) h a b text = absurd (cc h)
-alone_judge (TimeBeside ord_type) h a b text = absurd (cc h)
+  judge_same kind h text = refl
 
 -- ---- a line, and tags behind it that say nothing
 
@@ -240,43 +201,26 @@ module _ (g : GroupTags) (a : IsApart g) (line more : List Field) (skipped : Are
       by true rest = refl
       by false rest = rest
 
-module _ (g : GroupTags) (a : IsApart g) (rows : List (Row Kind))
-    (alone : list_all (member_alone g.skipped) rows ≡ true) where
-  line_cells : (line more : List Field) → AreSkipped g a more
-      → map (cell_of judge (line ++ more)) rows ≡ map (cell_of judge line) rows
-  line_cells line more skipped = each rows alone
-    where
-      each : (rows : List (Row Kind)) → list_all (member_alone g.skipped) rows ≡ true
-          → map (cell_of judge (line ++ more)) rows ≡ map (cell_of judge line) rows
-      each [] alone = refl
-      each (row ∷ rows) alone =
-          let p = both _ _ alone in
-          let q = both _ _ p.0 in
-          let r = both _ _ q.1 in
-          let value = value_more g a line more skipped row.tag (not_true _ q.0) line in
-          let rest = each rows p.1 in
-          λ i. (
-            Tag row.tag,
-            says row.need
-                (λ text. alone_judge row.kind r.1 (line ++ more) line text i) (value i),
-          ) ∷ rest i
-
-  line_missing : (line more : List Field) → AreSkipped g a more
-      → first_of (missing (line ++ more)) rows ≡ first_of (missing line) rows
-  unfolding first_of
-  line_missing line more skipped = each rows alone
-    where
-      each : (rows : List (Row Kind)) → list_all (member_alone g.skipped) rows ≡ true
-          → first_of (missing (line ++ more)) rows ≡ first_of (missing line) rows
-      each [] alone = refl
-      each (row ∷ rows) alone =
-          let p = both _ _ alone in
-          let q = both _ _ p.0 in
-          let r = both _ _ q.1 in
-          let has = has_more g a line more skipped row.tag (not_true _ q.0) line in
-          let needed = alone_need row.need r.0 (line ++ more) line in
-          let rest = each rows p.1 in
-          λ i. or_else (fault_if (needed i && not (has i)) (faults.Reason row.tag 1)) (rest i)
+-- so rows say the same of both lines, and miss the same
+rows_same : (g : GroupTags) (a : IsApart g) (line more : List Field) → AreSkipped g a more
+    → (rows : List (Row Kind)) → list_all (member_alone g.skipped) rows ≡ true
+    → (map (cell_of judge (line ++ more)) rows ≡ map (cell_of judge line) rows)
+    × (first_of (missing (line ++ more)) rows ≡ first_of (missing line) rows)
+unfolding first_of
+rows_same g a line more skipped [] alone = (refl, refl)
+rows_same g a line more skipped (row ∷ rows) alone =
+    let p = both _ _ alone in
+    let q = both _ _ p.0 in
+    let r = both _ _ q.1 in
+    let value = value_more g a line more skipped row.tag (not_true _ q.0) line in
+    let has = has_more g a line more skipped row.tag (not_true _ q.0) line in
+    let alike = none_alike (line ++ more) line in
+    let needed = need_same none_at (line ++ more) line alike row.need r.0 in
+    let judged = judge_same none_at (line ++ more) line alike row.kind r.1 in
+    let rest = rows_same g a line more skipped rows p.1 in (
+      λ i. (Tag row.tag, says row.need (λ text. judged text i) (value i)) ∷ rest.0 i,
+      λ i. or_else (fault_if (needed i && not (has i)) (faults.Reason row.tag 1)) (rest.1 i),
+    )
 
 -- ---- fields at no fault
 
@@ -329,11 +273,11 @@ module _ (t : Table Kind) (ok : table_behind t ≡ true) where
 
   items_ok : list_all (item_behind (once_in t)) t.items ≡ true
   items_ok = (both (list_all (item_behind (once_in t)) t.items)
-      (list_all (λ (row : Row Kind). kind_behind row.kind) (all_rows t)) ok).0
+      (list_all (λ (row : Row Kind). kind_on is_behind row.kind) (all_rows t)) ok).0
 
-  rows_ok : list_all (λ (row : Row Kind). kind_behind row.kind) (all_rows t) ≡ true
+  rows_ok : list_all (λ (row : Row Kind). kind_on is_behind row.kind) (all_rows t) ≡ true
   rows_ok = (both (list_all (item_behind (once_in t)) t.items)
-      (list_all (λ (row : Row Kind). kind_behind row.kind) (all_rows t)) ok).1
+      (list_all (λ (row : Row Kind). kind_on is_behind row.kind) (all_rows t)) ok).1
 
   group_is : (g : GroupTags) → In g (group_tags_in t) → IsGroup (once_in t) g
   group_is g i = groups_are (once_in t) t.items items_ok g i
@@ -375,8 +319,7 @@ module _ (t : Table Kind) (ok : table_behind t ≡ true) where
 
   once_of : (g : GroupTags) (a : IsApart g) → is_one_of (once_in t) g.count ≡ true
       → (before fields : List Field)
-      → first_of (twice (once_in t)) (placed_from before fields) ≡ None
-      → IsOnce g a before fields
+      → first_of (twice (once_in t)) (placed_from before fields) ≡ None → IsOnce g a before fields
   once_of g a counted before [] none = tt
   once_of g a counted before (f ∷ fields) none =
       let p = first_here (twice (once_in t))
@@ -417,24 +360,20 @@ module _ (t : Table Kind) (ok : table_behind t ≡ true) where
   -- ---- values
 
   module _ (fields : List Field) where
-    gone : List Field
-    gone = behind_header fields
-
     abbrev mark_by : List Field → Field → Option (Row Kind) → Marked
     mark_by beside f row = (f.0, by_row judge (is_passed t f.0) beside f.1 row)
 
-    mark_same : (f : Field)
-        → marked judge t (behind_header fields) f ≡ marked judge t fields f
+    mark_same : (f : Field) → marked judge t (behind_header fields) f ≡ marked judge t fields f
     mark_same f = by (row_at f.0 (all_rows t)) refl
       where
         by : (o : Option (Row Kind)) → row_at f.0 (all_rows t) ≡ o
             → mark_by (behind_header fields) f o ≡ mark_by fields f o
         by None is = refl
         by (Some row) is =
-            let kind = row_passes (λ (r : Row Kind). kind_behind r.kind) (all_rows t) f.0 row
+            let kind = row_passes (λ (r : Row Kind). kind_on is_behind r.kind) (all_rows t) f.0 row
             rows_ok is in
-            let same = judge_same (behind_header fields) fields (say_alike fields) row.kind kind f.1
-            in
+            let same = judge_same is_behind (behind_header fields) fields (say_alike fields)
+            row.kind kind f.1 in
             let at : Verdict → Marked = λ v. (f.0, allowed row.need (mark_of v)) in ap at same
 
     marks_none : (m : Marked → Option TableFault) (all : List Field)
@@ -469,96 +408,99 @@ module _ (t : Table Kind) (ok : table_behind t ≡ true) where
       group_in (Party role ∷ items) group (inr i) = group_in items group i
       group_in (Lines other ∷ items) group (inr i) = inr (group_in items group i)
 
-      missing_same : (items : List (Item Kind))
-          → ((item : Item Kind) → In item items → In item t.items)
-          → list_all (item_behind (once_in t)) items ≡ true
+      -- what is known of an item
+      abbrev Fits : Item Kind → Type 0
+      Fits (One row) = (is_behind row.tag ≡ true) × (need_on is_behind row.need ≡ true)
+          × (kind_on is_behind row.kind ≡ true)
+      Fits (Party role) = Unit {0}
+      Fits (Lines group) = (a : IsApart (tags_in group)) × AreLike (tags_in group) a
+          (lines_in (tags_in group) fields) (lines_in (tags_in group) (behind_header fields))
+          × (list_all (member_alone group.skipped) group.rows ≡ true)
+
+      fits_one : (item : Item Kind) → In item t.items → item_behind (once_in t) item ≡ true
+          → Fits item
+      fits_one (One row) i ok = let q = both _ _ ok in let r = both _ _ q.1 in (q.0, r.0, r.1)
+      fits_one (Party role) i ok = tt
+      fits_one (Lines group) i ok =
+          let q = both _ _ ok in
+          let r = both _ _ q.1 in
+          let j = group_in t.items group i in
+          let is = group_is (tags_in group) j in (
+            is.apart,
+            lines_like (tags_in group) is.apart fields
+                (fine_of (tags_in group) j [] fields groups_ok)
+                (once_of (tags_in group) is.apart is.once_is [] fields twice_ok),
+            r.1,
+          )
+
+      fits_each : (items : List (Item Kind)) → ((item : Item Kind) → In item items
+          → In item t.items) → list_all (item_behind (once_in t)) items ≡ true
+          → AllByRecursion Fits items
+      fits_each [] among all = tt
+      fits_each (item ∷ items) among all =
+          let p = both (item_behind (once_in t) item) (list_all (item_behind (once_in t)) items) all
+          in (
+            fits_one item (among item (inl refl)) p.0,
+            fits_each items (λ x i. among x (inr i)) p.1,
+          )
+
+      missing_same : (items : List (Item Kind)) → AllByRecursion Fits items
           → first_of (missing_of (behind_header fields)) items
           ≡ first_of (missing_of fields) items
       unfolding first_of
-      missing_same [] among all = refl
-      missing_same (One row ∷ items) among all =
-          let p = both (item_behind (once_in t) (One row))
-          (list_all (item_behind (once_in t)) items) all in
-          let q = both _ _ p.0 in
-          let r = both _ _ q.1 in
+      missing_same [] fits = refl
+      missing_same (One row ∷ items) fits =
           let alike = say_alike fields in
-          let needed = need_same (behind_header fields) fields alike row.need r.0 in
-          let has = alike.has row.tag q.0 in
-          let rest = missing_same items (λ item i. among item (inr i)) p.1 in
+          let needed = need_same is_behind (behind_header fields) fields alike row.need fits.0.1 in
+          let has = alike.has row.tag fits.0.0 in
+          let rest = missing_same items fits.1 in
           λ i. or_else (fault_if (needed i && not (has i)) (faults.Reason row.tag 1)) (rest i)
-      missing_same (Party role ∷ items) among all =
-          missing_same items (λ item i. among item (inr i))
-          (both (item_behind (once_in t) (Party role)) (list_all (item_behind (once_in t)) items)
-          all).1
-      missing_same (Lines group ∷ items) among all =
-          let p = both (item_behind (once_in t) (Lines group))
-          (list_all (item_behind (once_in t)) items) all in
-          let q = both _ _ p.0 in
-          let r = both _ _ q.1 in
-          let g = tags_in group in
-          let i = group_in t.items group (among (Lines group) (inl refl)) in
-          let is = group_is (tags_in group) i in
-          let like = lines_like (tags_in group) is.apart fields
-          (fine_of (tags_in group) i [] fields groups_ok)
-          (once_of (tags_in group) is.apart is.once_is [] fields twice_ok) in
-          let here = first_like (tags_in group) is.apart
+      missing_same (Party role ∷ items) fits = missing_same items fits.1
+      missing_same (Lines group ∷ items) fits =
+          let here = first_like (tags_in group) fits.0.0
           (λ (line : List Field). first_of (missing line) group.rows)
-          (line_missing (tags_in group) is.apart group.rows r.1)
-          (lines_in (tags_in group) fields) (lines_in (tags_in group) (behind_header fields)) like
-          in
-          let rest = missing_same items (λ item j. among item (inr j)) p.1 in
-          λ j. or_else (here j) (rest j)
+          (λ line more skipped.
+          (rows_same (tags_in group) fits.0.0 line more skipped group.rows fits.0.2).1)
+          (lines_in (tags_in group) fields) (lines_in (tags_in group) (behind_header fields))
+          fits.0.1 in
+          let rest = missing_same items fits.1 in
+          λ i. or_else (here i) (rest i)
 
       -- ---- what is said
 
-      group_same : (items : List (Item Kind))
-          → ((item : Item Kind) → In item items → In item t.items)
-          → list_all (item_behind (once_in t)) items ≡ true
+      group_same : (items : List (Item Kind)) → AllByRecursion Fits items
           → map (group_says judge (behind_header fields)) (flat_map groups_of items)
           ≡ map (group_says judge fields) (flat_map groups_of items)
-      group_same [] among all = refl
-      group_same (One row ∷ items) among all =
-          group_same items (λ item i. among item (inr i)) (both _ _ all).1
-      group_same (Party role ∷ items) among all =
-          group_same items (λ item i. among item (inr i))
-          (both (item_behind (once_in t) (Party role)) (list_all (item_behind (once_in t)) items)
-          all).1
-      group_same (Lines group ∷ items) among all =
-          let p = both (item_behind (once_in t) (Lines group))
-          (list_all (item_behind (once_in t)) items) all in
-          let q = both _ _ p.0 in
-          let r = both _ _ q.1 in
-          let i = group_in t.items group (among (Lines group) (inl refl)) in
-          let is = group_is (tags_in group) i in
-          let like = lines_like (tags_in group) is.apart fields
-          (fine_of (tags_in group) i [] fields groups_ok)
-          (once_of (tags_in group) is.apart is.once_is [] fields twice_ok) in
-          let here = map_like (tags_in group) is.apart
+      group_same [] fits = refl
+      group_same (One row ∷ items) fits = group_same items fits.1
+      group_same (Party role ∷ items) fits = group_same items fits.1
+      group_same (Lines group ∷ items) fits =
+          let here = map_like (tags_in group) fits.0.0
           (λ (line : List Field). map (cell_of judge line) group.rows)
-          (line_cells (tags_in group) is.apart group.rows r.1)
-          (lines_in (tags_in group) fields) (lines_in (tags_in group) (behind_header fields)) like
-          in
-          let rest = group_same items (λ item j. among item (inr j)) p.1 in
-          λ j. (group.count, here j) ∷ rest j
+          (λ line more skipped.
+          (rows_same (tags_in group) fits.0.0 line more skipped group.rows fits.0.2).0)
+          (lines_in (tags_in group) fields) (lines_in (tags_in group) (behind_header fields))
+          fits.0.1 in
+          let rest = group_same items fits.1 in
+          λ i. (group.count, here i) ∷ rest i
 
       cells_same : (said : List (ℕ × List (List Cell))) (items : List (Item Kind))
-          → list_all (item_behind (once_in t)) items ≡ true
-          → flat_map (cells_of judge (behind_header fields) said) items
+          → AllByRecursion Fits items → flat_map (cells_of judge (behind_header fields) said) items
           ≡ flat_map (cells_of judge fields said) items
-      cells_same said [] all = refl
-      cells_same said (One row ∷ items) all =
-          let p = both (item_behind (once_in t) (One row))
-          (list_all (item_behind (once_in t)) items) all in
-          let q = both _ _ p.0 in
-          let r = both _ _ q.1 in
-          let here = cell_same (behind_header fields) fields (say_alike fields) row q.0 r.1 in
-          let rest = cells_same said items p.1 in
-          λ i. here i ∷ rest i
-      cells_same said (Party role ∷ items) all =
-          let rest = cells_same said items (both (item_behind (once_in t) (Party role))
-          (list_all (item_behind (once_in t)) items) all).1 in
+      cells_same said [] fits = refl
+      cells_same said (One row ∷ items) fits =
+          let alike = say_alike fields in
+          let value = alike.value row.tag fits.0.0 in
+          let judged = judge_same is_behind (behind_header fields) fields alike row.kind fits.0.2 in
+          let rest = cells_same said items fits.1 in
+          λ i. (Tag row.tag, says row.need (λ text. judged text i) (value i)) ∷ rest i
+      cells_same said (Party role ∷ items) fits =
+          let rest = cells_same said items fits.1 in
           λ i. (Role role, party_in role (lines_of 453 said)) ∷ rest i
-      cells_same said (Lines group ∷ items) all = cells_same said items (both _ _ all).1
+      cells_same said (Lines group ∷ items) fits = cells_same said items fits.1
+
+      all_fit : AllByRecursion Fits t.items
+      all_fit = fits_each t.items (λ item i. i) items_ok
 
       no_resend : (fields : List Field) → value_at 97 (behind_header fields) ≡ None
       no_resend [] = refl
@@ -578,7 +520,7 @@ module _ (t : Table Kind) (ok : table_behind t ≡ true) where
       pub said_behind : message_in judge t (behind_header fields)
           ≡ record (message_in judge t fields) { resend = false }
       said_behind =
-          let said = group_same t.items (λ item i. i) items_ok in
+          let said = group_same t.items all_fit in
           let resend = ap (λ (v : Option (List ℕ)). unwrap_or (option_map flag_of v) false)
           (no_resend fields) in
           (λ i. record {
@@ -590,7 +532,7 @@ module _ (t : Table Kind) (ok : table_behind t ≡ true) where
           ∙ (λ i. record {
             letter = t.letter;
             resend = false;
-            cells = cells_same (map (group_says judge fields) (groups_in t)) t.items items_ok i;
+            cells = cells_same (map (group_says judge fields) (groups_in t)) t.items all_fit i;
             groups = map (group_says judge fields) (groups_in t);
           })
 
@@ -617,7 +559,7 @@ module _ (t : Table Kind) (ok : table_behind t ≡ true) where
               (none_or _ _ (marks_none wrong_version fields b.0)
               (none_or _ _ (groups_fine [] (behind_header fields) fine)
               (none_or _ _ (marks_none wrong fields d.0)
-              (none_or _ _ (missing_same a.0 c.0 t.items (λ item i. i) items_ok ∙ e.0)
+              (none_or _ _ (missing_same a.0 c.0 t.items (all_fit a.0 c.0) ∙ e.0)
               (marks_none beyond fields e.1)))));
           said = said_behind a.0 c.0;
         }

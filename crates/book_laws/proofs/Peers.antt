@@ -5,17 +5,18 @@ use Rattle.std.proofs.Common.{Some, None, append_assoc, append-nil}
 use Rattle.std.specs.Prelude.{◌&&◌, ◌||◌, not, cond, filter, fold, filter_map, slice_get}
 use Rattle.std.specs.List.{cons_option, flat_map, list_any}
 use Rattle.std.specs.Option.{option_to_list}
+use Rattle.std.proofs.lemmas.List.{take_all}
 use Rattle.std.proofs.lemmas.List.Elements.{filter-append}
 use Rattle.order_meaning.specs.declared.Side.{Side}
 use Rattle.order_meaning.specs.declared.Side.TheVariants.{Client, Venue}
 use Rattle.pair_entries.specs.declared.entry.Entry.{Entry}
-use Rattle.book_laws.specs.Heard.{Sort, Request, Report, Refusal, FaultyRefusal, Plain, Heard}
-use Rattle.book_laws.specs.Heard.{is_reject}
-use Rattle.book_laws.specs.SetAside.{Conversation, is_request, is_report, is_refusal, is_number}
+use Rattle.book_laws.specs.Heard.{Sort, Plain, Heard, is_reject}
+use Rattle.book_laws.specs.SetAside.{Conversation, is_refusal, is_number}
 use Rattle.book_laws.specs.SetAside.{names, answers, is_answered_off, refuses, is_refused, counts}
 use Rattle.book_laws.specs.SetAside.{sent_by, took_of}
 use Rattle.book_laws.specs.Books.{asked42, asked50, told42, told50, book42, book50}
 use Rattle.book_laws.specs.Pairs.{given, pair, taken}
+use Rattle.book_laws.proofs.Tests.{counts-plain}
 
 -- what books may depend on
 abbrev pub is_heard : Sort → Bool
@@ -36,8 +37,7 @@ pub data Passes (sent : List Heard) (before after : ℕ) (took : Option Heard) :
   Stands : after ≡ before → took ≡ None → Passes sent before after took
   Takes : (m : Heard) → slice_get sent before ≡ Some m → after ≡ before + 1 → took ≡ Some m
       → Passes sent before after took
-  Fills : before ≤ after → ArePlain sent before after → took ≡ None
-      → Passes sent before after took
+  Fills : before ≤ after → ArePlain sent before after → took ≡ None → Passes sent before after took
 
 -- the entries deal with the peer's messages from one count to another
 abbrev pub PassesAll : Side → List Heard → ℕ → List Entry → ℕ → Type 0
@@ -49,10 +49,6 @@ PassesAll side sent before (e ∷ entries) after =
 pub record IsWhole (side : Side) (c : Conversation) (entries : List Entry) : Type 0 where
   pub sent : PassesAll side c.sent 0 entries (length c.sent)
   pub took : heard c.took ≡ heard (flat_map (given side) entries)
-
-take-length : {X : Type 0} (l : List X) → take (length l) l ≡ l
-take-length [] = refl
-take-length (x ∷ l) = ap (λ r. x ∷ r) (take-length l)
 
 -- ---- what is not heard is in no list
 
@@ -77,24 +73,9 @@ module _ {X : Type 0} (h : X → Bool) where
       go true is rest = ap (λ c. cond (q x) (x ∷ c) c) rest
       go false is rest = ap (λ b. cond b (x ∷ filter q l) (filter q l)) (none x is) ∙ rest
 
-filter-same : {X : Type 0} (p q : X → Bool) → ((x : X) → p x ≡ q x) → (l : List X)
-    → filter p l ≡ filter q l
-filter-same p q same [] = refl
-filter-same p q same (x ∷ l) = ap (λ b. cond b (x ∷ filter p l) (filter p l)) (same x)
-    ∙ ap (λ m. cond (q x) (x ∷ m) m) (filter-same p q same l)
-
-any-agree : {X : Type 0} (p q : X → Bool) → ((x : X) → p x ≡ q x) → (l : List X)
-    → list_any p l ≡ list_any q l
-any-agree p q same [] = refl
-any-agree p q same (x ∷ l) = ap (λ b. b || list_any p l) (same x)
-    ∙ ap (λ b. q x || b) (any-agree p q same l)
-
 not-heard : (k : Sort) → is_heard k ≡ false → k ≡ Plain
-not-heard Request is = absurd (cc is)
-not-heard Report is = absurd (cc is)
-not-heard Refusal is = absurd (cc is)
-not-heard FaultyRefusal is = absurd (cc is)
 not-heard Plain is = refl
+not-heard other is = absurd (cc is)
 
 abbrev hears : Heard → Bool
 hears m = is_heard m.sort
@@ -114,28 +95,21 @@ refused-heard : (c : Conversation) (m : Heard) → is_refused c m ≡ is_refused
 refused-heard c m =
     any-kept hears (refuses c.took m) (λ x is. ap (λ b. (b && not (is_answered_off c.took x))
     && names x m) (ap is_refusal (not-heard x.sort is))) c.sent
-    ∙ any-agree (refuses c.took m) (refuses (heard c.took) m) (refuses-heard c.took m) (heard
-    c.sent)
-
-counts-plain : (side : Side) (m : Heard) → m.sort ≡ Plain → counts side m ≡ false
-counts-plain Client m is = ap (λ b. b && not m.resend) (ap is_request is)
-counts-plain Venue m is = ap is_report is
+    ∙ (λ i. list_any (λ r. refuses-heard c.took m r i) (heard c.sent))
 
 sent-heard : (side : Side) (c : Conversation) → sent_by side c ≡ sent_by side (heard_of c)
 sent-heard side c =
     let p = λ (m : Heard). counts side m && not (is_answered_off c.took m) in
-    let q = λ (m : Heard). counts side m && not (is_answered_off (heard c.took) m) in
     filter-kept hears p (λ x is. ap (λ b. b
     && not (is_answered_off c.took x)) (counts-plain side x (not-heard x.sort is))) c.sent
-    ∙ filter-same p q (λ x. ap (λ b. counts side x && not b) (off-heard c.took x)) (heard c.sent)
+    ∙ (λ i. filter (λ x. counts side x && not (off-heard c.took x i)) (heard c.sent))
 
 took-heard : (side : Side) (c : Conversation) → took_of side c ≡ took_of side (heard_of c)
 took-heard side c =
     let p = λ (m : Heard). counts side m && not (is_refused c m) in
-    let q = λ (m : Heard). counts side m && not (is_refused (heard_of c) m) in
     filter-kept hears p (λ x is. ap (λ b. b
     && not (is_refused c x)) (counts-plain side x (not-heard x.sort is))) c.took
-    ∙ filter-same p q (λ x. ap (λ b. counts side x && not b) (refused-heard c x)) (heard c.took)
+    ∙ (λ i. filter (λ x. counts side x && not (refused-heard c x i)) (heard c.took))
 
 book42-heard : (c : Conversation) → book42 c ≡ book42 (heard_of c)
 book42-heard c =
@@ -143,8 +117,7 @@ book42-heard c =
     (sent-heard Client c)
     ∙ ap (λ l. record {
       requests = filter_map asked42 (sent_by Client (heard_of c));
-      book = fold
-          told42 [] l;
+      book = fold told42 [] l;
     }) (took-heard Venue c)
 
 book50-heard : (c : Conversation) → book50 c ≡ book50 (heard_of c)
@@ -153,8 +126,7 @@ book50-heard c =
     (took-heard Client c)
     ∙ ap (λ l. record {
       requests = filter_map asked50 (took_of Client (heard_of c));
-      book = fold
-          told50 [] l;
+      book = fold told50 [] l;
     }) (sent-heard Venue c)
 
 -- ---- what was sent
@@ -221,7 +193,8 @@ module _ (side : Side) where
 
   pub sent-all : (l : List Heard) (entries : List Entry) → PassesAll side l 0 entries (length l)
       → heard l ≡ heard (filter_map (taken side) entries)
-  sent-all l entries all = ap heard (sym (take-length l)) ∙ passes-all l 0 (length l) entries all
+  sent-all l entries all = ap heard (sym (take_all (length l) l (omega arith)))
+      ∙ passes-all l 0 (length l) entries all
 
   same-heard : (c : Conversation) (entries : List Entry) → IsWhole side c entries
       → heard_of c ≡ heard_of (pair side entries)

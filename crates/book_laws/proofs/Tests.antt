@@ -6,7 +6,7 @@ use Rattle.std.proofs.lemmas.Bool.{cases_eq}
 use Rattle.std.proofs.lemmas.Bool.Decides.{nat_tests}
 use Rattle.order_meaning.specs.declared.Side.{Side}
 use Rattle.order_meaning.specs.declared.Side.TheVariants.{Client, Venue}
-use Rattle.book_laws.specs.Heard.{Sort, Request, Report, Refusal, FaultyRefusal, Plain, Heard}
+use Rattle.book_laws.specs.Heard.{Sort, Request, Report, Refusal, Plain, Heard}
 use Rattle.book_laws.specs.Heard.{is_reject}
 use Rattle.book_laws.specs.HeardLaws.{sort_from}
 use Rattle.book_laws.specs.SetAside.{is_request, is_report, is_refusal, is_number, names, answers}
@@ -98,10 +98,7 @@ none-refuses took out r none = go r.sort refl
     go : (k : Sort) → r.sort ≡ k → refuses took out r ≡ false
     go Refusal is = ap (λ b. (is_refusal r.sort && not (is_answered_off took r)) && b) (none is)
         ∙ and-false (is_refusal r.sort && not (is_answered_off took r))
-    go Request is = sort-refuses took out r (ap is_refusal is)
-    go Report is = sort-refuses took out r (ap is_refusal is)
-    go FaultyRefusal is = sort-refuses took out r (ap is_refusal is)
-    go Plain is = sort-refuses took out r (ap is_refusal is)
+    go sort is = sort-refuses took out r (ap is_refusal is)
 
 pub counts-none : (side : Side) (m : Heard) → is_request m.sort ≡ false
     → is_report m.sort ≡ false → counts side m ≡ false
@@ -114,9 +111,7 @@ counts-reject side m reject = go m.sort refl
     go : (k : Sort) → m.sort ≡ k → counts side m ≡ false
     go Request is = not-both (is_reject m.sort) reject (ap is_reject is)
     go Report is = not-both (is_reject m.sort) reject (ap is_reject is)
-    go Refusal is = counts-none side m (ap is_request is) (ap is_report is)
-    go FaultyRefusal is = counts-none side m (ap is_request is) (ap is_report is)
-    go Plain is = counts-none side m (ap is_request is) (ap is_report is)
+    go sort is = counts-none side m (ap is_request is) (ap is_report is)
 
 pub counts-plain : (side : Side) (m : Heard) → m.sort ≡ Plain → counts side m ≡ false
 counts-plain side m is = counts-none side m (ap is_request is) (ap is_report is)
