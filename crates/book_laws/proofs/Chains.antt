@@ -1,23 +1,21 @@
 -- What a refusal names by an id: the request that the chains have, which went on.
-use Rattle.std.proofs.Common.{◌≡◌, ℕ, ◌==◌, not, Bool, true, false, List}
-use Rattle.std.proofs.Common.{[], ◌∷◌, ◌++◌, codes, Option, Some, None, Ok, unwrap_or}
-use Rattle.std.proofs.Common.{refl, sym, ap, ◌∙◌, inl, inr}
-use Rattle.std.proofs.Common.{option_map}
+use Rattle.std.proofs.Common.{◌≡◌, ℕ, ◌==◌, not, Bool, true, false, List, [], ◌∷◌, ◌++◌, Option}
+use Rattle.std.proofs.Common.{Some, None, Ok, unwrap_or, refl, sym, ap, ◌∙◌, inl, inr, option_map}
 use Rattle.std.proofs.Common.{if◌then◌else◌}
 use Rattle.std.specs.Prelude.{is_some}
 use Rattle.std.specs.List.{list_any}
 use Rattle.std.specs.Option.{option_to_list}
 use Rattle.std.specs.Str.{bytes_eq}
 use Rattle.std.proofs.lemmas.Slice.Eq.{bytes_eq-Decides}
-use Rattle.message_tables.specs.Tables.{Message, ◌>>=◌, first_of, is_one_of, or_else}
-use Rattle.message_tables.specs.Tables.{text_in}
+use Rattle.message_tables.specs.Tables.{Message, ◌>>=◌, first_of, is_one_of, or_else, text_in}
 use Rattle.order_meaning.specs.declared.Side.{Side}
 use Rattle.order_meaning.specs.declared.Side.TheVariants.{Client, Venue}
 use Rattle.order_meaning.specs.declared.names.Names.{Names}
 use Rattle.order_chains.specs.Chains.{has_id, item_with, number_of}
 use Rattle.order_chains.specs.declared.item.ChainItem.{ChainItem}
 use Rattle.frame_grammar.specs.Frame.{IsBody}
-use Rattle.event_decisions.specs.Body.{fields_of, reading_of, type_of}
+use Rattle.sound_laws.proofs.Each.{not_true}
+use Rattle.event_decisions.specs.Body.{fields_of}
 use Rattle.pair_entries.specs.declared.entry.Took.{Took}
 use Rattle.pair_entries.specs.declared.entry.Out.{Out}
 use Rattle.pair_entries.specs.declared.entry.Entry.{Entry}
@@ -27,14 +25,13 @@ use Rattle.message_answers.specs.Chains.{chains_after, chains_of, if_new, item_i
 use Rattle.message_answers.specs.Chains.{joining, joining_letter, new_item}
 use Rattle.message_answers.specs.Message.{message_of}
 use Rattle.message_answers.specs.Seen.{item_of}
-use Rattle.message_answers.proofs.Forwards.{request_said}
-use Rattle.message_answers.proofs.Letters.{joining_by}
+use Rattle.message_answers.proofs.Forwards.{joins_by, request_said}
+use Rattle.message_answers.proofs.Letters.{joining_by, letter_to}
 use Rattle.book_laws.specs.Keeps.{In}
 use Rattle.book_laws.proofs.Lists.{in-either}
 use Rattle.book_laws.proofs.Made.{Going}
-use Rattle.book_laws.proofs.Sources.{AreKnown, letter_among, listed, made_source, not_true, own_out}
-use Rattle.book_laws.proofs.Sources.{same_took, source_is, sourced}
-use Rattle.book_laws.proofs.Types.{said_type}
+use Rattle.book_laws.proofs.Sources.{AreKnown, listed, made_source, own_out, same_took, source_is}
+use Rattle.book_laws.proofs.Sources.{sourced}
 
 -- the request of an item
 pub record IsItemOf (e : Entry) (item : ChainItem) : Type 0 where
@@ -63,30 +60,6 @@ first_in e (out ∷ outs) letter is = by (joining_letter e out) refl is
     by None none is later = let l = later is in (l.0, inr l.1, l.2)
     by (Some l) found is later = (out, inl refl, found ∙ is)
 
-joined_source : (e : Entry) (out : Out) (letter : ℕ) → joining_letter e out ≡ Some letter
-    → (number : ℕ) × (is_one_of joining letter ≡ true)
-    × (source_in (record { entry = e; out = out }) ≡ Some (number, letter))
-joined_source e out letter is = by (source_in (record { entry = e; out = out })) refl is
-  where
-    by_test : (n l : ℕ) (b : Bool) → source_in (record { entry = e; out = out }) ≡ Some (n, l)
-        → is_one_of joining l ≡ b → (if b then Some l else None) ≡ Some letter
-        → (number : ℕ) × (is_one_of joining letter ≡ true)
-        × (source_in (record { entry = e; out = out }) ≡ Some (number, letter))
-    by_test n l false at test is = absurd (cc is)
-    by_test n l true at test is =
-        let same : l ≡ letter = cc is in (
-          n,
-          ap (is_one_of joining) (sym same) ∙ test,
-          at ∙ ap (λ (x : ℕ). Some (n, x)) same,
-        )
-
-    by : (s : Option (ℕ × ℕ)) → source_in (record { entry = e; out = out }) ≡ s
-        → joining_by s ≡ Some letter
-        → (number : ℕ) × (is_one_of joining letter ≡ true)
-        × (source_in (record { entry = e; out = out }) ≡ Some (number, letter))
-    by None at is = absurd (cc is)
-    by (Some (n, l)) at is = by_test n l (is_one_of joining l) at refl is
-
 pub item_of_entry : (e : Entry) (item : ChainItem) → item_in e ≡ Some item → IsItemOf e item
 item_of_entry e item is = by e.took refl is
   where
@@ -97,7 +70,7 @@ item_of_entry e item is = by e.took refl is
     by_letter took None at first is = absurd (cc is)
     by_letter took (Some letter) at first is =
         let one = first_in e e.outs letter first in
-        let s = joined_source e one.0 letter one.2 in
+        let s = joins_by (source_in (record { entry = e; out = one.0 })) letter one.2 in
         let t = source_is e one.0 (s.0, letter) s.2 in
         let same = same_took e.took t.took took t.is at in
         record {
@@ -182,7 +155,7 @@ pub joins_client : (side : Side) (l : ℕ) → is_one_of joining l ≡ true
 joins_client Client l joins listed = refl
 joins_client Venue l joins listed = absurd (cc (
   joins,
-  not_true _ (letter_among (λ x. not (is_one_of joining x)) (codes "89") l refl listed),
+  not_true _ (letter_to Client (λ x. not (is_one_of joining x)) l refl listed),
 ))
 
 -- the request of a client went on that has an id
@@ -198,12 +171,6 @@ pub record WentById (names : Names) (id : List ℕ) (at : ℕ × ℕ) (entries :
   pub joins : is_one_of joining m.letter ≡ true
   pub id_is : text_in m.cells 11 ≡ id
   pub number : took.number ≡ at.0
-
--- the type of a message that was read
-pub type_read : (raw : List ℕ) (m : Message) → message_of Client raw ≡ Ok m
-    → type_of raw ≡ m.letter ∷ []
-type_read raw m reads =
-    said_type (type_of raw) (fields_of raw) (reading_of raw).fault m Client reads
 
 module _ (names : Names) (entries : List Entry) (known : AreKnown names entries) where
   -- AN ID OF THE CHAINS names a request that went on.
@@ -242,8 +209,7 @@ module _ (names : Names) (entries : List Entry) (known : AreKnown names entries)
             client = client;
             joins = joins;
             id_is = ap (λ (y : ChainItem). y.id)
-                (request_said x.took.raw w.m reads (type_read x.took.raw w.m reads) joins
-                x.took.number)
+                (request_said x.took.raw w.m reads joins x.took.number)
                 ∙ ap (λ (y : ChainItem). y.id) x.item_is ∙ sym f.named;
             number = ap (λ (t : Took). t.number) took
                 ∙ ap (λ (y : ChainItem). y.number) x.item_is
@@ -320,8 +286,7 @@ module _ (past : List Entry) (e : Entry) (took : Took) (out : Out) (m : Message)
       Some (item_said took.number letter (fields_of took.raw))))) going.taken.is
       ∙ ap (λ (o : Option ℕ). o >>= (λ letter.
       Some (item_said took.number letter (fields_of took.raw)))) front
-      ∙ ap (λ (item : ChainItem). Some item)
-      (sym (request_said took.raw m reads (type_read took.raw m reads) joins took.number))
+      ∙ ap (λ (item : ChainItem). Some item) (sym (request_said took.raw m reads joins took.number))
 
   -- THE ID OF A REQUEST THAT WENT ON is in the chains.
   pub id_kept : (entries : List Entry) → In e entries

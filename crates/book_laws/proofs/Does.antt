@@ -19,21 +19,19 @@ use Rattle.pair_entries.specs.declared.entry.Entry.{Entry}
 use Rattle.pair_journal.specs.Given.{source_of}
 use Rattle.pair_journal.specs.Numbers.{first_numbers, is_side, outs_to}
 use Rattle.row_values.specs.Kinds.{resend_of}
-use Rattle.event_decisions.specs.Body.{fields_of, first_value, reading_of, type_of}
+use Rattle.event_decisions.specs.Body.{fields_of}
 use Rattle.event_decisions.specs.Laws.{AreAdmin, IsOfSession}
 use Rattle.message_answers.specs.Answer.{is_used, other}
 use Rattle.message_answers.specs.Chains.{chains_of, joining}
 use Rattle.message_answers.specs.Known.{known_of, named, named_by_id}
 use Rattle.message_answers.specs.Message.{is_refusal, is_refusal_type, message_of, refusal_in}
-use Rattle.message_answers.proofs.ReadShapes.{shape}
+use Rattle.message_answers.proofs.ReadShapes.{resend_is, said_type}
 use Rattle.life_laws.specs.Receiver.{IsSent}
 use Rattle.book_laws.specs.Heard.{Heard, Sort, Request, Report, Refusal, Plain}
 use Rattle.book_laws.specs.Heard.{cl_ord_id_in, heard_body, heard_out, is_among, is_reject}
 use Rattle.book_laws.specs.Heard.{refusal_sort, report_types, request_types, sort_of}
 use Rattle.book_laws.specs.HeardLaws.{HasItsId, IdsAreCompared, IsRefusalOf}
 use Rattle.book_laws.specs.HeardLaws.{RefusalsAreHeard, SentSessionsAreHeardPlain, sort_from}
-use Rattle.book_laws.proofs.On.{resend_is}
-use Rattle.book_laws.proofs.Types.{said_type}
 use Rattle.book_laws.specs.SetAside.{counts, is_id, is_request, is_report, names as names_message}
 use Rattle.book_laws.specs.SetAside.{names_by}
 use Rattle.book_laws.specs.Pairs.{given, taken}
@@ -47,29 +45,11 @@ use Rattle.book_laws.proofs.Shapes.{Does, DoesFor, Forwards, ForClient, ForVenue
 use Rattle.book_laws.proofs.Shapes.{ForSession, HasNewId, HasNoId, ItAnswers, ItForwards}
 use Rattle.book_laws.proofs.Shapes.{ItPassesOn, ItSaysNothing, Rests}
 use Rattle.book_laws.proofs.Chains.{WentById, id_kept, id_went}
-use Rattle.book_laws.proofs.Sources.{AreKnown, WentUnder, admin_out, found, in_outs}
-use Rattle.book_laws.proofs.Sources.{source_went}
+use Rattle.book_laws.proofs.Sides.{apart_side, far_side, in_outs, own_side, twice}
+use Rattle.book_laws.proofs.Sources.{AreKnown, WentUnder, admin_out, found, source_went}
 use Rattle.book_laws.proofs.Tests.{counts-none, is-false, same-some}
 use Rattle.book_laws.proofs.Tooks.{heard_raw, raw_is_body, raw_refuses, took_far, took_heard}
 use Rattle.book_laws.proofs.Tooks.{took_none, took_plain}
-
--- ---- sides
-
-own : (side : Side) → is_side side side ≡ true
-own Client = refl
-own Venue = refl
-
-apart : (side : Side) → is_side side (other side) ≡ false
-apart Client = refl
-apart Venue = refl
-
-far : (side : Side) → is_side (other side) side ≡ false
-far Client = refl
-far Venue = refl
-
-twice : (side : Side) → other (other side) ≡ side
-twice Client = refl
-twice Venue = refl
 
 -- ---- sorts
 
@@ -88,10 +68,10 @@ no_refusal l read none is = by (is_refusal_type (l ∷ [])) (is_among request_ty
   where
     by : (a b c : Bool) → a ≡ false → (if a then refusal_sort read else
         (if b then Request else (if c then Report else Plain))) ≡ Refusal → ⊥
-    by true b c none is = absurd (cc none)
-    by false true c none is = absurd (cc is)
-    by false false true none is = absurd (cc is)
-    by false false false none is = absurd (cc is)
+    by true b c none is = absurd cc
+    by false true c none is = absurd cc
+    by false false true none is = absurd cc
+    by false false false none is = absurd cc
 
 plain_sort : (side : Side) → Plain ≡ sort_from side → ⊥
 plain_sort Client is = absurd (cc is)
@@ -108,23 +88,20 @@ abbrev pub AreSentBy : Names → Entry → Type 0
 AreSentBy names e = (side : Side) (out : Out) → In out (outs_to side e.outs) → IsSent names side out
 
 module _ (names : Names) (e : Entry) (sent : AreSentBy names e) where
-  own_given : (side : Side) (out : Out) → GivesOne e side out → given side e ≡ heard_out out ∷ []
-  own_given side out gives = given_is side names e (sent side)
+  one_given : (side to : Side) (out : Out) {b : Bool} → GivesOne e to out → is_side side to ≡ b
+      → given side e ≡ map heard_out (cond b (out ∷ []) [])
+  one_given side to out gives is = given_is side names e (sent side)
       ∙ ap (λ (l : List Out). map heard_out (outs_to side l)) gives.outs
-      ∙ ap (λ (b : Bool). map heard_out (cond b (out ∷ []) []))
-      (ap (is_side side) gives.to ∙ own side)
+      ∙ ap (λ (b : Bool). map heard_out (cond b (out ∷ []) [])) (ap (is_side side) gives.to ∙ is)
+
+  own_given : (side : Side) (out : Out) → GivesOne e side out → given side e ≡ heard_out out ∷ []
+  own_given side out gives = one_given side side out gives (own_side side)
 
   far_given : (side : Side) (out : Out) → GivesOne e side out → given (other side) e ≡ []
-  far_given side out gives = given_is (other side) names e (sent (other side))
-      ∙ ap (λ (l : List Out). map heard_out (outs_to (other side) l)) gives.outs
-      ∙ ap (λ (b : Bool). map heard_out (cond b (out ∷ []) []))
-      (ap (is_side (other side)) gives.to ∙ far side)
+  far_given side out gives = one_given (other side) side out gives (far_side side)
 
   near_given : (side : Side) (out : Out) → GivesOne e (other side) out → given side e ≡ []
-  near_given side out gives = given_is side names e (sent side)
-      ∙ ap (λ (l : List Out). map heard_out (outs_to side l)) gives.outs
-      ∙ ap (λ (b : Bool). map heard_out (cond b (out ∷ []) []))
-      (ap (is_side side) gives.to ∙ apart side)
+  near_given side out gives = one_given side (other side) out gives (apart_side side)
 
   none_given : (side : Side) → e.outs ≡ [] → given side e ≡ []
   none_given side none = given_is side names e (sent side)
@@ -300,7 +277,7 @@ module _ (says : HeadersSayNothing) (ids : IdsAreCompared) (refusals : RefusalsA
       own_among x out gives side to =
           subst (λ (l : List Out). In out (outs_to side l)) (sym gives.outs)
           (subst (λ (c : Bool). In out (cond c (out ∷ []) []))
-          (sym (ap (is_side side) to ∙ own side)) (inl refl))
+          (sym (ap (is_side side) to ∙ own_side side)) (inl refl))
 
       only_one : (x : Entry) (out : Out) → x.outs ≡ out ∷ [] → (o : Out) → In o x.outs → o ≡ out
       only_one x out outs o i = by (subst (In o) outs i)
@@ -358,10 +335,9 @@ module _ (says : HeadersSayNothing) (ids : IdsAreCompared) (refusals : RefusalsA
           (subst (λ (s : Side). Forwards s (other s) x own out) same f)
 
       flipped : (a c : Side) → a ≡ other c → c ≡ other a
-      flipped Client Client is = absurd (cc is)
       flipped Client Venue is = refl
       flipped Venue Client is = refl
-      flipped Venue Venue is = absurd (cc is)
+      flipped a c is = absurd (cc is)
 
       heard : (refusal_in m).number ≡ (heard_raw took.side took.number took.raw).number_named
       heard = sym (raw_refuses says took.side took.number took.raw m reads refusals is).number
@@ -554,14 +530,10 @@ module _ (says : HeadersSayNothing) (ids : IdsAreCompared) (refusals : RefusalsA
     repeats took m t outs read side resend =
         let raw_is = raw_is_body says took.side took.number took.raw m read.reads read.is in
         let own : m.resend ≡ resend_of (fields_of took.raw) =
-        resend_is took.side (fields_of took.raw) (reading_of took.raw).fault
-        (message_of took.side took.raw) m read.reads read.is
-        (shape (first_value (fields_of took.raw)) (fields_of took.raw) (reading_of took.raw).fault
-        took.side) in
+        resend_is took.side took.raw m read.reads read.is in
         let again : (heard_raw took.side took.number took.raw).resend ≡ true =
         ap (λ (h : Heard). h.resend) raw_is ∙ sym own ∙ resend in
-        let typed = said_type (type_of took.raw) (fields_of took.raw) (reading_of took.raw).fault m
-        took.side read.reads in
+        let typed = said_type took.side took.raw m read.reads in
         for_side took.side (ItSaysNothing (heard_raw took.side took.number took.raw) (record {
           from = record {
             takes = took_heard e took t.is t.no_reset t.numbered;

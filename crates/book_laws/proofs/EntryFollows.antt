@@ -1,11 +1,10 @@
 -- What a side learns of an entry's outs is what the other side said in it.
-use Rattle.std.proofs.Common.{◌≡◌, ℕ, Bool, true, false, List, [], ◌∷◌, ◌++◌, Some, None}
-use Rattle.std.proofs.Common.{Ok, Err, refl, sym, ap, ◌∙◌, subst, IfSome}
-use Rattle.std.specs.Prelude.{Option, Result, ◌&&◌, ◌||◌, not, nat_lt, fold, cond}
-use Rattle.std.specs.Prelude.{if◌then◌else◌}
+use Rattle.std.proofs.Common.{◌≡◌, ◌≤◌, ℕ, Bool, true, false, List, [], ◌∷◌, ◌++◌, Some, None}
+use Rattle.std.proofs.Common.{Ok, Err, refl, sym, ap, ◌∙◌, subst, IfSome, length}
+use Rattle.std.specs.Prelude.{Option, Result, ◌&&◌, ◌||◌, not, nat_lt, fold, cond, if◌then◌else◌}
 use Rattle.std.specs.List.{list_any}
 use Rattle.std.proofs.lemmas.List.Sums.{fold-append}
-use Rattle.field_groups.specs.Field.{Field}
+use Rattle.field_groups.specs.Field.{Field, AreFields, body_of}
 use Rattle.message_tables.specs.Tables.{◌>>=◌}
 use Rattle.order_meaning.specs.declared.Side.{Side}
 use Rattle.order_meaning.specs.declared.Side.TheVariants.{Client, Venue}
@@ -15,6 +14,7 @@ use Rattle.session_core.specs.declared.session.Session.{Session}
 use Rattle.session_core.specs.declared.session.Spent.{Spent}
 use Rattle.session_core.specs.declared.session.Step.{Step}
 use Rattle.session_core.specs.Table as session
+use Rattle.pair_entries.specs.declared.TheConstants.{MAX_NUMBER}
 use Rattle.pair_entries.specs.declared.entry.Took.{Took}
 use Rattle.pair_entries.specs.declared.entry.Out.{Out}
 use Rattle.pair_entries.specs.declared.entry.Entry.{Entry}
@@ -29,22 +29,22 @@ use Rattle.event_decisions.specs.Decide.{decide_by, with_session, is_active, IsD
 use Rattle.event_decisions.specs.Laws.{AreWords, asked_about}
 use Rattle.message_answers.specs.Answer.{Answers, other}
 use Rattle.message_answers.specs.Message.{is_refusal_type}
-use Rattle.message_answers.specs.Laws.{AnswersAreGivenOut, AreNumbered, IsGivenOut, is_in_header}
+use Rattle.message_answers.specs.Laws.{AnswersAreGivenOut, AreNumbered, IsGivenOut, IsNumbered}
+use Rattle.message_answers.specs.Laws.{is_in_header}
 use Rattle.life_laws.specs.Receiver.{behind_header, message_of_out}
-use Rattle.book_laws.specs.Heard.{heard_body, heard_out, said_out, is_among}
-use Rattle.book_laws.specs.Heard.{report_types, request_types, refusal_sort, sort_of}
-use Rattle.book_laws.specs.Heard.{Report, Request, Plain}
+use Rattle.book_laws.specs.Heard.{heard_body, heard_out, said_out, is_among, report_types}
+use Rattle.book_laws.specs.Heard.{request_types, refusal_sort, sort_of, Report, Request, Plain}
 use Rattle.book_laws.specs.Learned.{Learned, types_to, with_taken, read_in, is_for, with_said}
 use Rattle.book_laws.specs.Learned.{goes_below, said_by}
 use Rattle.book_laws.specs.HeardLaws.{AnswersAreHeard, IsHeard, Off, Returned, On, IsHeardOn}
 use Rattle.book_laws.specs.HeardLaws.{sort_from}
-use Rattle.book_laws.proofs.Contents.{content_read}
+use Rattle.life_laws.proofs.Received.{content_read}
 use Rattle.book_laws.proofs.Quiet.{IsQuiet, AreQuiet, says_quiet, reject_quiet}
 use Rattle.book_laws.proofs.Quiet.{after_out, quiet_one, quiet_outs, quiet_goes, quiet_none}
 
 -- ---- the content of what is given out says nothing that its header says
 
-pub header_none : (fields : List Field) → list_any is_in_header fields ≡ false
+header_none : (fields : List Field) → list_any is_in_header fields ≡ false
     → behind_header fields ≡ fields
 header_none [] none = refl
 header_none (f ∷ fields) none = by (is_in_header f) none (λ e. header_none fields e)
@@ -55,25 +55,24 @@ header_none (f ∷ fields) none = by (is_in_header f) none (λ e. header_none fi
     by true e rest = absurd (cc e)
     by false e rest = ap (λ (fs : List Field). f ∷ fs) (rest e)
 
-content_kept : (said : Said) → IsGivenOut said
-    → behind_header (fields_of said.content) ≡ fields_of said.content
-content_kept said given =
-    let read : fields_of said.content ≡ given.fields =
-    ap fields_of given.content ∙ content_read given.fields given.good given.few in
-    ap behind_header read ∙ header_none given.fields given.no_header ∙ sym read
+pub content_kept : (content : List ℕ) (fields : List Field) → content ≡ body_of fields
+    → AreFields None fields → length fields ≤ 248 → list_any is_in_header fields ≡ false
+    → behind_header (fields_of content) ≡ fields_of content
+content_kept content fields is good few none =
+    let read : fields_of content ≡ fields = ap fields_of is ∙ content_read fields good few in
+    ap behind_header read ∙ header_none fields none ∙ sym read
 
 -- ---- a message that is given out for one that was taken
 
-typed : (side : Side) (msg_type : List ℕ) (is_read : Bool)
+pub type_to : (side : Side) (msg_type : List ℕ) (is_read : Bool)
     → sort_of msg_type is_read ≡ sort_from side → is_among (types_to (other side)) msg_type ≡ true
-typed side msg_type is_read is = same side ∙ by side (is_refusal_type msg_type)
+type_to side msg_type is_read is = same side ∙ by side (is_refusal_type msg_type)
     (is_among request_types msg_type) (is_among report_types msg_type) is
   where
     never : (side : Side) (b : Bool) → refusal_sort b ≡ sort_from side → ⊥
     never Client true e = absurd (cc e)
-    never Client false e = absurd (cc e)
     never Venue true e = absurd (cc e)
-    never Venue false e = absurd (cc e)
+    never side b e = absurd (cc e)
 
     of : Side → (request report : Bool) → Bool
     of Client request report = request
@@ -89,11 +88,9 @@ typed side msg_type is_read is = same side ∙ by side (is_refusal_type msg_type
         → of side q r ≡ true
     by side true q r e = absurd (never side is_read e)
     by Client false true r e = refl
-    by Venue false true r e = absurd (cc e)
     by Client false false true e = absurd (cc e)
     by Venue false false true e = refl
-    by Client false false false e = absurd (cc e)
-    by Venue false false false e = absurd (cc e)
+    by side false q r e = absurd (cc e)
 
 -- what a side has learned after what the other side said, where it went on
 abbrev pub after_said : (side : Side) → Learned side → (goes : Bool) → Option Took → Learned side
@@ -137,7 +134,7 @@ read_is side number resend said given = ap (λ (fields : List Field). read_in si
   msg_type = said.msg_type;
   resend = resend;
   fields = fields;
-})) (content_kept said given)
+})) (content_kept said.content given.fields given.content given.good given.few given.no_header)
 
 module _ (n : ℕ) (own : ℕ) (raw : List ℕ) (said : Said) (resend : Bool) (number : ℕ)
     (given : IsGivenOut said) where
@@ -151,12 +148,12 @@ module _ (n : ℕ) (own : ℕ) (raw : List ℕ) (said : Said) (resend : Bool) (n
   on_follows Venue Venue Venue meanings is on = absurd (cc is)
   on_follows Client Venue Client book is on = goes_follows Client n book
       (out_of Client number resend said) (record { side = Venue; number = own; raw = raw }) refl
-      given.plain (typed Venue said.msg_type _ on.out_sort)
+      given.plain (type_to Venue said.msg_type _ on.out_sort)
       (ap (with_taken Client book) (read_is Client number resend said given)
       ∙ sym (on.carries book))
   on_follows Venue Client Venue meanings is on = goes_follows Venue n meanings
       (out_of Venue number resend said) (record { side = Client; number = own; raw = raw }) refl
-      given.plain (typed Client said.msg_type _ on.out_sort)
+      given.plain (type_to Client said.msg_type _ on.out_sort)
       (ap (with_taken Venue meanings) (read_is Venue number resend said given)
       ∙ sym (ap (λ m. meanings ++ m ∷ []) on.carries))
 
@@ -210,10 +207,9 @@ pub record IsMadeOf (took : Option Took) (e : Entry) (words : Option Words) : Ty
   pub are : AreWords words given
   pub outs : e.outs ≡ own ++ given
 
-pub concluded_is : (names : Names) (window : ℕ) (s t : Sessions) (event : Event) (now : ℕ)
+concluded_is : (names : Names) (window : ℕ) (s t : Sessions) (event : Event) (now : ℕ)
     (words : Option Words) (step : Step) (r : Result Given Side) (d : Decision) (e : Entry)
-    → give now t words ≡ r → concluded names window s event now step r ≡ Ok d
-    → d.entry ≡ Some e
+    → give now t words ≡ r → concluded names window s event now step r ≡ Ok d → d.entry ≡ Some e
     → IsMadeOf (took_of event (input_of names window event now) step.acts) e words
 unfolding entry_in
 concluded_is names window s t event now words step (Err side) d e gives made is = absurd (cc made)
@@ -230,6 +226,38 @@ concluded_is names window s t event now words step (Ok g) d e gives made is =
       are = give_are now t words g gives;
       outs = ap (λ (x : Entry). x.outs) (sym same);
     }
+
+-- where these words answer what the entry took
+pub record IsAnswered (before : List Entry) (e : Entry) : Type 0 where
+  pub took : Option Took
+  pub asked : Bool
+  pub active : Bool
+  pub words : Option Words
+  pub of : IsMadeOf took e words
+  pub answer : Answers before active (asked_if asked took) words
+
+pub decided_is : (names : Names) (before : List Entry) (e : Entry)
+    → IsDecided Answers names before e → IsAnswered before e
+decided_is names before e d =
+    by (stepped names d.window d.sessions d.event e.at) d.decides.answer d.decides.decided
+  where
+    by : (r : Result Step Spent) → Answers before (is_active d.sessions.venue.link)
+        (asked_by d.event (input_of names d.window d.event e.at) r) d.decides.words
+        → decide_by names d.window d.sessions d.event e.at d.decides.words r ≡ Ok d.decision
+        → IsAnswered before e
+    by (Err spent) answer made = absurd (cc made)
+    by (Ok step) answer made =
+        let input = input_of names d.window d.event e.at in
+        let t = with_session (side_of d.event) step.next d.sessions in
+        record {
+          took = took_of d.event input step.acts;
+          asked = asks input step.acts;
+          active = is_active d.sessions.venue.link;
+          words = d.decides.words;
+          of = concluded_is names d.window d.sessions t d.event e.at d.decides.words step
+              (give e.at t d.decides.words) d.decision e refl made d.is;
+          answer = answer;
+        }
 
 module _ (heard : AnswersAreHeard) (given_out : AnswersAreGivenOut) (names : Names)
     (side : Side) (n : ℕ) (before : List Entry) (numbered_before : AreNumbered before)
@@ -250,8 +278,7 @@ module _ (heard : AnswersAreHeard) (given_out : AnswersAreGivenOut) (names : Nam
 
   words_follow : (took : Option Took) (b : Bool) (active : Bool) (words : Option Words)
       (given : List Out) → IfSome took IsTook
-      → Answers before active (asked_if b took) words → AreWords words given
-      → FollowAll given took
+      → Answers before active (asked_if b took) words → AreWords words given → FollowAll given took
   words_follow took b active None given bounds answer are =
       subst (λ (outs : List Out). FollowAll outs took) (sym are) refl
   words_follow None true active (Some words) given bounds answer are = absurd (cc answer)
@@ -274,22 +301,18 @@ module _ (heard : AnswersAreHeard) (given_out : AnswersAreGivenOut) (names : Nam
       (subst (λ (t : Option Took). Answers before active (asked_if b t) words) (sym of.took_is)
       answer) of.are))
 
-  decided_by : (window : ℕ) (s : Sessions) (event : Event) (now : ℕ) (active : Bool)
-      (words : Option Words) (r : Result Step Spent) (d : Decision) (e : Entry) → IsEntry e
-      → Answers before active (asked_by event (input_of names window event now) r) words
-      → decide_by names window s event now words r ≡ Ok d → d.entry ≡ Some e → FollowsEntry e
-  decided_by window s event now active words (Err spent) d e is answer made here =
-      absurd (cc made)
-  decided_by window s event now active words (Ok step) d e is answer made here =
-      let input = input_of names window event now in
-      let t = with_session (side_of event) step.next s in
-      made_follows (took_of event input step.acts) (asks input step.acts) active words e is.took
-      (concluded_is names window s t event now words step (give now t words) d e refl made here)
-      answer
-
   pub entry_follows : (e : Entry) → IsEntry e → IsDecided Answers names before e → FollowsEntry e
   entry_follows e is decided =
-      decided_by decided.window decided.sessions decided.event e.at
-      (is_active decided.sessions.venue.link) decided.decides.words
-      (stepped names decided.window decided.sessions decided.event e.at) decided.decision e
-      is decided.decides.answer decided.decides.decided decided.is
+      let f = decided_is names before e decided in
+      made_follows f.took f.asked f.active f.words e is.took f.of f.answer
+
+-- ---- numbers that a message may have
+
+pub numbered_more : (before : List Entry) (e : Entry) → AreNumbered before → IsNumbered e
+    → AreNumbered (before ++ e ∷ [])
+numbered_more [] e are is = (is, tt)
+numbered_more (x ∷ before) e are is = (are.0, numbered_more before e are.1 is)
+
+pub number_of : (took : Option Took) → IfSome took IsTook → IfSome took (λ t. t.number ≤ MAX_NUMBER)
+number_of None is = tt
+number_of (Some took) is = is.below

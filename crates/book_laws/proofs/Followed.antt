@@ -1,8 +1,7 @@
 -- What a side learns follows what the other side said, entry by entry.
 use Rattle.std.proofs.Common.{◌≡◌, ℕ, zero, suc, ◌+◌, ◌-◌, ◌≤◌, Bool, true, false, List, [], ◌∷◌}
-use Rattle.std.proofs.Common.{◌++◌, Some, None, refl, sym, ap, ◌∙◌, subst, arith, IfSome, take}
-use Rattle.std.proofs.Common.{length}
-use Rattle.std.specs.Prelude.{Option, not, nat_lt, cond, fold, filter, map, if◌then◌else◌}
+use Rattle.std.proofs.Common.{◌++◌, refl, sym, ap, ◌∙◌, subst, arith, take, length}
+use Rattle.std.specs.Prelude.{not, nat_lt, cond, fold, filter, map, if◌then◌else◌}
 use Rattle.std.specs.List.{list_any}
 use Rattle.std.proofs.lemmas.Bool.Decides.{nat_tests}
 use Rattle.std.proofs.lemmas.List.Folds.{fold-map}
@@ -11,17 +10,15 @@ use Rattle.message_tables.specs.Tables.{◌>>=◌}
 use Rattle.order_meaning.specs.declared.Side.{Side}
 use Rattle.order_meaning.specs.declared.Side.TheVariants.{Client, Venue}
 use Rattle.order_meaning.specs.declared.names.Names.{Names}
-use Rattle.pair_entries.specs.declared.TheConstants.{MAX_NUMBER}
-use Rattle.pair_entries.specs.declared.entry.Took.{Took}
 use Rattle.pair_entries.specs.declared.entry.Out.{Out}
 use Rattle.pair_entries.specs.declared.entry.Entry.{Entry}
-use Rattle.pair_entries.specs.Payload.{Next, IsTook}
+use Rattle.pair_entries.specs.Payload.{Next}
 use Rattle.pair_journal.specs.Numbers.{first_numbers, is_side, outs_to, next_out, Numbered}
 use Rattle.pair_journal.specs.Numbers.{GoesOn, OutsGoOn}
 use Rattle.pair_journal.specs.Journal.{AreEntries}
 use Rattle.event_decisions.specs.Decide.{LawfulAfter}
 use Rattle.message_answers.specs.Answer.{Answers, other}
-use Rattle.message_answers.specs.Laws.{AnswersAreGivenOut, AreNumbered, IsNumbered}
+use Rattle.message_answers.specs.Laws.{AnswersAreGivenOut, AreNumbered}
 use Rattle.life_laws.specs.Forms.{Placed, placed_at, all_placed}
 use Rattle.life_laws.specs.Receiver.{message_of_out}
 use Rattle.life_laws.specs.Standing.{NumberedFrom}
@@ -30,7 +27,7 @@ use Rattle.book_laws.specs.Learned.{Learned, with_taken, read_in, is_for, learne
 use Rattle.book_laws.specs.Learned.{with_said, goes_below, said_by}
 use Rattle.book_laws.specs.HeardLaws.{AnswersAreHeard, SidesLearn}
 use Rattle.book_laws.proofs.Quiet.{after_one, after_out}
-use Rattle.book_laws.proofs.EntryFollows.{after_said, entry_follows}
+use Rattle.book_laws.proofs.EntryFollows.{after_said, entry_follows, number_of, numbered_more}
 
 -- ---- the outs of a side are numbered from 1 on
 
@@ -158,16 +155,6 @@ module _ (n : ℕ) where
     -- ---- entry by entry
 
     module _ (heard : AnswersAreHeard) (given_out : AnswersAreGivenOut) (names : Names) where
-      number_of : (took : Option Took) → IfSome took IsTook
-          → IfSome took (λ t. t.number ≤ MAX_NUMBER)
-      number_of None is = tt
-      number_of (Some took) is = is.below
-
-      numbered_more : (before : List Entry) (e : Entry) → AreNumbered before → IsNumbered e
-          → AreNumbered (before ++ e ∷ [])
-      numbered_more [] e are is = (is, tt)
-      numbered_more (x ∷ before) e are is = (are.0, numbered_more before e are.1 is)
-
       abbrev after_entry : Learned side → Entry → Learned side
       after_entry learned e = after_said side learned (list_any (goes_below side n) e.outs) e.took
 

@@ -8,19 +8,14 @@ use Rattle.message_tables.specs.Tables.{Message, ◌>>=◌, is_one_of, text_in}
 use Rattle.order_meaning.specs.declared.Side.{Side}
 use Rattle.order_meaning.specs.declared.fault.Fault.{Fault}
 use Rattle.pair_entries.specs.declared.entry.Out.{Out}
-use Rattle.event_decisions.specs.Body.{fields_of, reading_of, type_of}
+use Rattle.event_decisions.specs.Body.{fields_of, type_of}
 use Rattle.message_answers.specs.Chains.{joining}
 use Rattle.message_answers.specs.Message.{message_of}
 use Rattle.message_answers.proofs.Letters.{among}
-use Rattle.book_laws.specs.Heard.{Sort, Report}
-use Rattle.book_laws.specs.Heard.{cl_ord_id_in, message_to}
-use Rattle.book_laws.specs.Heard.{sort_of, with_resend}
+use Rattle.message_answers.proofs.ReadShapes.{said_type}
+use Rattle.book_laws.specs.Heard.{Sort, Report, cl_ord_id_in, message_to, sort_of, with_resend}
 use Rattle.book_laws.specs.HeardLaws.{IdsAreCompared}
-use Rattle.book_laws.proofs.Types.{given_type, said_type}
-
-abbrev is_report : Sort → Bool
-is_report Report = true
-is_report other = false
+use Rattle.book_laws.proofs.Types.{given_type}
 
 abbrev is_no_report : Sort → Bool
 is_no_report Report = false
@@ -54,14 +49,12 @@ ids_compared = record {
         → sort_of (type_of body) (is_some (result_ok r)) ≡ Report
         → (result_ok r >>= cl_ord_id_in) ≡ None
     taken side body (Err fault) is sort = refl
-    taken side body (Ok m) is sort = no_id (type_of body) m
-        (said_type (type_of body) (fields_of body) (reading_of body).fault m side is) sort
+    taken side body (Ok m) is sort = no_id (type_of body) m (said_type side body m is) sort
 
     given : (out : Out) (r : Result Message Fault)
         → message_to out.side out.msg_type (fields_of out.content) ≡ r
         → sort_of out.msg_type (is_some (option_map (with_resend out.resend) (result_ok r)))
-        ≡ Report
-        → (option_map (with_resend out.resend) (result_ok r) >>= cl_ord_id_in) ≡ None
+        ≡ Report → (option_map (with_resend out.resend) (result_ok r) >>= cl_ord_id_in) ≡ None
     given out (Err fault) is sort = refl
     given out (Ok m) is sort =
         no_id out.msg_type m (given_type out.msg_type (fields_of out.content) m out.side is) sort

@@ -1,29 +1,23 @@
 -- That each request that a lawful journal forwarded was at no fault.
-use Rattle.std.proofs.Common.{◌≡◌, ℕ, ◌==◌, ◌&&◌, not, Bool, true, false, List, [], ◌∷◌, ◌++◌}
-use Rattle.std.proofs.Common.{Option, Some, None, Result, Ok, Err, IfSome, refl, sym, ap, subst}
-use Rattle.std.proofs.Common.{◌∙◌}
+use Rattle.std.proofs.Common.{◌≡◌, ℕ, ◌==◌, not, Bool, true, false, List, [], ◌∷◌, ◌++◌, Option}
+use Rattle.std.proofs.Common.{Some, None, Result, Ok, Err, IfSome, refl, sym, ap, subst, ◌∙◌}
 use Rattle.std.proofs.Common.{option_map, unwrap_or, inl, inr}
 use Rattle.std.specs.List.{AllByRecursion, list_any}
 use Rattle.message_tables.specs.Tables.{Message, is_one_of}
 use Rattle.order_meaning.specs.declared.Side.{Side}
 use Rattle.order_meaning.specs.declared.Side.TheVariants.{Client, Venue}
-use Rattle.order_meaning.specs.declared.names.Names.{Names}
 use Rattle.order_meaning.specs.declared.fault.Fault.{Fault}
 use Rattle.order_chains.specs.declared.item.ChainItem.{ChainItem}
 use Rattle.session_core.specs.declared.said.Said.{Said}
-use Rattle.session_core.specs.declared.session.Spent.{Spent}
-use Rattle.session_core.specs.declared.session.Step.{Step}
 use Rattle.pair_entries.specs.declared.entry.Took.{Took}
 use Rattle.pair_entries.specs.declared.entry.Out.{Out}
 use Rattle.pair_entries.specs.declared.entry.Entry.{Entry}
 use Rattle.pair_journal.specs.Numbers.{is_side}
 use Rattle.pair_journal.specs.Given.{has_letter, letters_to}
+use Rattle.sound_laws.proofs.Each.{not_true}
 use Rattle.reject_rules.specs.Refusals.{refusal_of}
 use Rattle.event_decisions.specs.Body.{fields_of, type_of}
-use Rattle.event_decisions.specs.Event.{Event, side_of}
-use Rattle.event_decisions.specs.Decide.{Asked, Decision, IsDecided, LawfulAfter, Sessions, Words}
-use Rattle.event_decisions.specs.Decide.{asked_by, asked_if, asks, decide_by, give, input_of}
-use Rattle.event_decisions.specs.Decide.{is_active, out_of, stepped, took_of, with_session}
+use Rattle.event_decisions.specs.Decide.{Asked, LawfulAfter, Words, asked_if, out_of}
 use Rattle.event_decisions.specs.Laws.{AreWords, asked_about}
 use Rattle.message_answers.specs.Answer.{Answers, Gives, answered, near_if}
 use Rattle.message_answers.specs.Chains.{item_in, item_said, joining}
@@ -32,21 +26,19 @@ use Rattle.message_answers.specs.Message.{message_of}
 use Rattle.message_answers.specs.Seen.{item_of}
 use Rattle.message_answers.proofs.Forwards.{request_said}
 use Rattle.message_answers.proofs.Letters.{among}
+use Rattle.message_answers.proofs.ReadShapes.{said_type}
 use Rattle.message_answers.proofs.Typed.{type_is}
 use Rattle.book_laws.specs.Heard.{is_among, request_types}
 use Rattle.book_laws.specs.Keeps.{In}
 use Rattle.book_laws.specs.Laws.{IsJudged, RequestsAreJudged}
-use Rattle.book_laws.proofs.Chains.{item_of_entry, joins_client, type_read}
-use Rattle.book_laws.proofs.EntryFollows.{IsMadeOf, concluded_is}
+use Rattle.book_laws.proofs.Chains.{item_of_entry, joins_client}
+use Rattle.book_laws.proofs.EntryFollows.{IsMadeOf, decided_is}
 use Rattle.book_laws.proofs.Lists.{in-either}
 use Rattle.book_laws.proofs.Quiet.{AreQuiet, IsQuiet}
-use Rattle.book_laws.proofs.Sources.{not_true, same_took, source_is}
+use Rattle.book_laws.proofs.Sides.{own_side}
+use Rattle.book_laws.proofs.Sources.{parts, same_took, source_is}
 
 -- ---- an answer to the other side
-
-same_side : (side : Side) → is_side side side ≡ true
-same_side Client = refl
-same_side Venue = refl
 
 -- where some words go to the other side, what was asked was at no fault
 module _ (known : Known) (active : Bool) (asked : Asked) (words : Words)
@@ -56,7 +48,7 @@ module _ (known : Known) (active : Bool) (asked : Asked) (words : Words)
   not_near (Some said) gives =
       let to : words.to ≡ asked.side =
       ap (λ (o : Option Words). unwrap_or (option_map (λ w. w.to) o) asked.side) gives in
-      let near = ap (λ (s : Side). is_side s asked.side) to ∙ same_side asked.side in
+      let near = ap (λ (s : Side). is_side s asked.side) to ∙ own_side asked.side in
       absurd (cc (near, far))
 
   no_fault : (r : Result Message Fault) → message_of asked.side asked.body ≡ r
@@ -83,12 +75,6 @@ module _ (before : List Entry) (active : Bool) (took : Took) (out : Out)
       by (inr none) = absurd none
 
 -- ---- the tests of an out that translates
-
-three : (a b c : Bool) → (not a && b && c) ≡ true → (a ≡ false) × (b ≡ true) × (c ≡ true)
-three false true true is = (refl, refl, refl)
-three false true false is = absurd (cc is)
-three false false c is = absurd (cc is)
-three true b c is = absurd (cc is)
 
 -- a request that joins is the client's
 client_of : (side to : Side) (letter : ℕ) → is_one_of joining letter ≡ true
@@ -120,12 +106,12 @@ module _ (took : Took) (letter : ℕ) (item : ChainItem) (joins : is_one_of join
     (reads : message_of Client took.raw ≡ Ok m) where
   judged : IsJudged took item
   judged =
-      let typed = type_read took.raw m reads in
+      let typed = said_type Client took.raw m reads in
       let named : m.letter ∷ [] ≡ letter ∷ [] = sym typed ∙ type_is letter took.raw
       (not_true (letter == 1) (among (λ l. not (l == 1)) joining letter refl joins)) begins in
       let one : m.letter ≡ letter = cc named in
       let same : item_of took.number m ≡ item =
-      request_said took.raw m reads typed (ap (is_one_of joining) one ∙ joins) took.number
+      request_said took.raw m reads (ap (is_one_of joining) one ∙ joins) took.number
       ∙ ap (λ (l : ℕ). item_said took.number l (fields_of took.raw)) one ∙ item_is in
       record {
         m = m;
@@ -140,14 +126,14 @@ abbrev AreJudged : Entry → Type 0
 AreJudged e = (item : ChainItem) → item_in e ≡ Some item
     → IfSome e.took (λ took. IsJudged took item)
 
-module _ (names : Names) (before : List Entry) (e : Entry) where
+module _ (before : List Entry) (e : Entry) where
   made_judged : (took : Option Took) (b active : Bool) (words : Option Words)
       → IsMadeOf took e words → Answers before active (asked_if b took) words → AreJudged e
   made_judged took b active words of answer item is =
       let x = item_of_entry e item is in
       let s = source_is e x.out (x.took.number, x.letter) x.source in
       let same = same_took e.took s.took x.took s.is x.is in
-      let tests = three (is_side x.out.side s.took.side)
+      let tests = parts (not (is_side x.out.side s.took.side))
       (list_any (λ b. x.letter == b) (letters_to x.out.side)) (has_letter x.letter s.took.raw)
       s.source in
       let asked : Answers before active (asked_if b (Some s.took)) words =
@@ -157,33 +143,14 @@ module _ (names : Names) (before : List Entry) (e : Entry) where
       elim (in-either of.own of.given x.out (subst (In x.out) of.outs x.among)) [
         | inl own ↦ absurd (not_quiet x.letter x.joins
             (subst IsQuiet s.typed (quiet_in of.own x.out of.quiet own)))
-        | inr given ↦ given_read before active s.took x.out tests.0 b words of.given asked of.are
-            given
+        | inr given ↦ given_read before active s.took x.out (not_true _ tests.0) b words of.given
+            asked of.are given
       ] in
-      let client = client_of s.took.side x.out.side x.letter x.joins tests.0 tests.1 in
+      let client = client_of s.took.side x.out.side x.letter x.joins (not_true _ tests.0) tests.1 in
       subst (λ (t : Option Took). IfSome t (λ took. IsJudged took item)) (sym s.is)
       (judged s.took x.letter item x.joins
       (ap (λ (t : Took). item_said t.number x.letter (fields_of t.raw)) same ∙ x.item_is) tests.2
       read.0 (ap (λ (side : Side). message_of side s.took.raw) (sym client) ∙ read.1))
-
-  decided_by : (window : ℕ) (s : Sessions) (event : Event) (now : ℕ) (active : Bool)
-      (words : Option Words) (r : Result Step Spent) (d : Decision)
-      → Answers before active (asked_by event (input_of names window event now) r) words
-      → decide_by names window s event now words r ≡ Ok d → d.entry ≡ Some e → AreJudged e
-  decided_by window s event now active words (Err spent) d answer made here = absurd (cc made)
-  decided_by window s event now active words (Ok step) d answer made here =
-      let input = input_of names window event now in
-      let t = with_session (side_of event) step.next s in
-      made_judged (took_of event input step.acts) (asks input step.acts) active words
-      (concluded_is names window s t event now words step (give now t words) d e refl made here)
-      answer
-
-  entry_judged : IsDecided Answers names before e → AreJudged e
-  entry_judged decided =
-      decided_by decided.window decided.sessions decided.event e.at
-      (is_active decided.sessions.venue.link) decided.decides.words
-      (stepped names decided.window decided.sessions decided.event e.at) decided.decision
-      decided.decides.answer decided.decides.decided decided.is
 
 -- THE REQUESTS OF A LAWFUL JOURNAL were at no fault.
 pub requests_judged : RequestsAreJudged
@@ -193,4 +160,7 @@ requests_judged names entries lawful = go [] entries lawful
         → AllByRecursion AreJudged entries
     go before [] lawful = tt
     go before (e ∷ entries) lawful =
-        (entry_judged names before e lawful.0, go (before ++ e ∷ []) entries lawful.1)
+        let f = decided_is names before e lawful.0 in (
+          made_judged before e f.took f.asked f.active f.words f.of f.answer,
+          go (before ++ e ∷ []) entries lawful.1,
+        )

@@ -6,11 +6,10 @@ use Rattle.order_meaning.specs.declared.Side.{Side}
 use Rattle.order_meaning.specs.declared.Side.TheVariants.{Client, Venue}
 use Rattle.order_meaning.specs.declared.names.Names.{Names}
 use Rattle.frame_grammar.specs.Frame.{IsBody}
-use Rattle.pair_entries.specs.declared.TheConstants.{MAX_NUMBER}
 use Rattle.pair_entries.specs.declared.entry.Took.{Took}
 use Rattle.pair_entries.specs.declared.entry.Out.{Out}
 use Rattle.pair_entries.specs.declared.entry.Entry.{Entry}
-use Rattle.pair_entries.specs.Payload.{IsTook, Next}
+use Rattle.pair_entries.specs.Payload.{Next}
 use Rattle.pair_journal.specs.Journal.{AreEntries}
 use Rattle.pair_journal.specs.Numbers.{GoesOn, TookGoesOn, first_numbers, next_in, numbers_after}
 use Rattle.pair_journal.specs.Numbers.{outs_to}
@@ -18,7 +17,7 @@ use Rattle.event_decisions.specs.Decide.{IsDecided, IsLawful, LawfulAfter, asked
 use Rattle.event_decisions.specs.Decide.{numbers_of}
 use Rattle.event_decisions.specs.Laws.{Breaks, DecisionsMake, Makes, counts, taking_of}
 use Rattle.message_answers.specs.Answer.{Answers}
-use Rattle.message_answers.specs.Laws.{AreNumbered, IsNumbered}
+use Rattle.message_answers.specs.Laws.{AreNumbered}
 use Rattle.life_laws.specs.Receiver.{AreSent, IsSent}
 use Rattle.book_laws.specs.HeardLaws.{AnswersAreHeard, BodiesAreReadAlike, IdsAreCompared}
 use Rattle.book_laws.specs.HeardLaws.{RefusalsAreHeard, SentSessionsAreHeardPlain}
@@ -27,6 +26,7 @@ use Rattle.book_laws.specs.Laws.{HeadersSayNothing, TookBody}
 use Rattle.book_laws.specs.Proper.{ProperFrom}
 use Rattle.book_laws.proofs.Does.{AreBefore, AreSentBy, does, new_ids, no_ids}
 use Rattle.book_laws.proofs.Made.{made, none_breaks, silent_by}
+use Rattle.book_laws.proofs.EntryFollows.{number_of, numbered_more}
 use Rattle.book_laws.proofs.New.{AllCounted, Counted, is_new, move_more, moves}
 use Rattle.book_laws.proofs.Outs.{out_sent}
 use Rattle.book_laws.proofs.Places.{in-one}
@@ -37,15 +37,6 @@ pub numbers_last : (next : Next) (before : List Entry) (e : Entry)
     → numbers_after next (before ++ e ∷ []) ≡ e.next
 numbers_last next [] e = refl
 numbers_last next (x ∷ before) e = numbers_last x.next before e
-
-numbered_more : (before : List Entry) (e : Entry) → AreNumbered before → IsNumbered e
-    → AreNumbered (before ++ e ∷ [])
-numbered_more [] e are is = (is, tt)
-numbered_more (x ∷ before) e are is = (are.0, numbered_more before e are.1 is)
-
-number_of : (took : Option Took) → IfSome took IsTook → IfSome took (λ t. t.number ≤ MAX_NUMBER)
-number_of None is = tt
-number_of (Some took) is = is.below
 
 body_of : (t : Option Took) (took : Took) → IfSome t (λ x. IsBody x.raw) → t ≡ Some took
     → IsBody took.raw

@@ -1,4 +1,5 @@
 mod WorkedHeard
+mod Sides
 pub mod Types
 mod Ids
 mod Numbers

@@ -1,9 +1,8 @@
 -- What an entry of a lawful journal is: a message goes on, or is answered off; a refusal is told to
 -- the other side; nothing is answered; or messages of the sessions alone.
 use Rattle.std.proofs.Common.{◌≡◌, ◌≤◌, ◌⊎◌, ◌==◌, ◌||◌, ℕ, Bool, true, false, List, [], ◌∷◌, ◌++◌}
-use Rattle.std.proofs.Common.{codes}
-use Rattle.std.proofs.Common.{Option, Some, None, Result, Ok, Err, IfSome, refl, sym, ap, subst}
-use Rattle.std.proofs.Common.{◌∙◌, arith, inl, inr, length}
+use Rattle.std.proofs.Common.{codes, Option, Some, None, Result, Ok, Err, IfSome, refl, sym, ap}
+use Rattle.std.proofs.Common.{subst, ◌∙◌, arith, inl, inr, length}
 use Rattle.std.specs.Prelude.{cond}
 use Rattle.std.specs.Str.{bytes_eq}
 use Rattle.field_groups.specs.Field.{body_of}
@@ -12,7 +11,7 @@ use Rattle.order_meaning.specs.declared.Side.{Side}
 use Rattle.order_meaning.specs.declared.Side.TheVariants.{Client, Venue}
 use Rattle.order_meaning.specs.declared.names.Names.{Names}
 use Rattle.session_core.specs.declared.act.Act.{Act}
-use Rattle.session_core.specs.declared.act.Act.TheVariants.{Take, Skip, Say, Resend, HangUp}
+use Rattle.session_core.specs.declared.act.Act.TheVariants.{Take}
 use Rattle.session_core.specs.declared.act.Admin.TheVariants as admin
 use Rattle.session_core.specs.declared.reason.TheConstants.{COMP_ID_PROBLEM}
 use Rattle.session_core.specs.declared.head.What.TheVariants as what
@@ -52,7 +51,8 @@ use Rattle.book_laws.specs.HeardLaws.{Off, On, Returned, RefusalsAreHeard, sort_
 use Rattle.book_laws.proofs.Answered.{IsAnswer, Nears, Tells, Goes, NamesFirst, answer_is}
 use Rattle.book_laws.proofs.Texts.{refuses}
 use Rattle.book_laws.specs.Keeps.{In}
-use Rattle.book_laws.proofs.Silence.{IsSilence, Repeats, NamesNone, silent, used_stays}
+use Rattle.book_laws.proofs.Sides.{own_side}
+use Rattle.book_laws.proofs.Silence.{IsSilence, Repeats, NamesNone, silent}
 use Rattle.book_laws.proofs.Tooks.{faulty_tag, no_reset}
 
 -- ---- what an entry is
@@ -142,12 +142,10 @@ IsApplication asked = is_for_application (what_of asked.side asked.body) ≡ tru
 asked_in : (b : Bool) (side : Side) (body : List ℕ) (taken : Bool) (number : Option ℕ) (a : Asked)
     → is_for_application (what_of side body) ≡ b
     → asked_if b (took_if taken side body number) ≡ Some a → IsApplication a
-asked_in false side body taken number a app is = absurd (cc is)
-asked_in true side body false number a app is = absurd (cc is)
-asked_in true side body true None a app is = absurd (cc is)
 asked_in true side body true (Some n) a app is =
     let same : record { side = side; number = n; body = body } ≡ a = cc is in
     subst IsApplication same app
+asked_in b side body taken number a app is = absurd (cc is)
 
 none_asked : (b : Bool) (a : Asked) → asked_if b None ≡ Some a → IsApplication a
 none_asked true a is = absurd (cc is)
@@ -169,14 +167,9 @@ module _ (names : Names) (window : ℕ) (now : ℕ) where
           → asked_if (asks (session.Message (head_in names window side body now)) acts)
           (took_of (Frame side body) (session.Message (head_in names window side body now)) acts)
           ≡ Some a → IsApplication a
-      by [] is = absurd (cc is)
       by (Take ∷ []) is = asked_in (is_for_application (what_of side body)) side body true
           (number_in (fields_of body)) a refl is
-      by (Take ∷ act ∷ acts) is = absurd (cc is)
-      by (Skip ∷ acts) is = absurd (cc is)
-      by (Say said ∷ acts) is = absurd (cc is)
-      by (Resend from to ∷ acts) is = absurd (cc is)
-      by (HangUp ∷ acts) is = absurd (cc is)
+      by acts is = absurd (cc is)
 
   asked_result : (event : Event) (r : Result Step Spent) (a : Asked)
       → asked_by event (input_of names window event now) r ≡ Some a → IsApplication a
@@ -251,14 +244,6 @@ module _ (makes : DecisionsMake) (hears : AnswersAreHeard) (refusals : RefusalsA
     out : Out
     out = out_of words.to number words.resend words.said
 
-    not_used : (b : Bool) (m : Message) → IsRead took false m → words.to ≡ other took.side
-        → took.side ≡ Client → is_used (known_of before) m ≡ b
-        → is_used (known_of before) m ≡ false
-    not_used false m read to client is = is
-    not_used true m read to client is = absurd (not_other took.side
-        (sym (used_stays before active (asked_about took) m words read.reads client read.is is
-        answer) ∙ to))
-
     on_made : words.to ≡ other took.side
         → IsHeardOn took.side (heard_body took.side took.number took.raw)
         (heard_out (out_of words.to number words.resend words.said))
@@ -269,14 +254,13 @@ module _ (makes : DecisionsMake) (hears : AnswersAreHeard) (refusals : RefusalsA
     on_made to on outs (Tells m reads is_one own letter source is) =
         absurd (not_refusal took.side
         (sym (refusals took.side took.number took.raw m reads is_one).sort ∙ on.sort))
-    on_made to on outs (Goes m reads none original known written goes is) =
+    on_made to on outs (Goes m reads none unused original known written goes is) =
         MadeOn took (out_of words.to number words.resend words.said) m (record {
           taken = taken;
           gives = record { outs = outs; to = to };
           read = record { reads = reads; is = none };
           typed = ap type_in is;
-          unused = λ client. not_used (is_used (known_of before) m) m
-              (record { reads = reads; is = none }) to client refl;
+          unused = unused;
           on = on;
         })
 
@@ -329,10 +313,6 @@ module _ (makes : DecisionsMake) (hears : AnswersAreHeard) (refusals : RefusalsA
       out : Out
       out = reject_out took.side n tag reason took.number (type_of took.raw)
 
-      own : (side : Side) → is_side side side ≡ true
-      own Client = refl
-      own Venue = refl
-
       among : In (reject_out took.side n tag reason took.number (type_of took.raw))
           (outs_to took.side e.outs)
       among = subst (λ (l : List Out).
@@ -341,7 +321,7 @@ module _ (makes : DecisionsMake) (hears : AnswersAreHeard) (refusals : RefusalsA
           (subst (λ (b : Bool).
           In (reject_out took.side n tag reason took.number (type_of took.raw))
           (cond b (reject_out took.side n tag reason took.number (type_of took.raw) ∷ []) []))
-          (sym (own took.side)) (inl refl))
+          (sym (own_side took.side)) (inl refl))
 
       by : (b : Bool) → bytes_eq (type_of took.raw) (codes "4") ≡ b → Made before e
       by true test = absurd (unbroken (subst Breaks (sym outs) (inl (record {

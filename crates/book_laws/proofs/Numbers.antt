@@ -37,9 +37,8 @@ by_tests : (value : ℕ) (digits short few : Bool) → nat_le value 1_000_000_00
 by_tests value true true true test =
     number_again value (at_most value 1_000_000_000 test)
 by_tests value true true false test = refl
-by_tests value true false few test = refl
 by_tests value false true few test = refl
-by_tests value false false few test = refl
+by_tests value digits short few test = refl
 
 -- a value says the same number by its bytes and as it is judged
 number_said_by : (fields : List Field) (bytes : List ℕ)

@@ -1,41 +1,26 @@
 -- What is given out is heard as it was said: its content says nothing that its header says.
-use Rattle.std.proofs.Common.{◌≡◌, ℕ, ◌+◌, ◌-◌, ◌==◌, suc, Bool, true, false, List, [], ◌∷◌}
-use Rattle.std.proofs.Common.{◌++◌}
-use Rattle.std.proofs.Common.{Some, None, refl, sym, ap, subst, ◌∙◌, map, arith, inl, inr}
-use Rattle.std.proofs.Common.{if◌then◌else◌}
-use Rattle.std.specs.Prelude.{slice_get, cond}
+use Rattle.std.proofs.Common.{◌≡◌, ℕ, ◌+◌, ◌-◌, ◌==◌, suc, Bool, false, List, [], ◌∷◌, ◌++◌, Some}
+use Rattle.std.proofs.Common.{None, refl, sym, ap, subst, ◌∙◌, map, arith, inl, inr, if◌then◌else◌}
+use Rattle.std.specs.Prelude.{slice_get}
 use Rattle.std.specs.Result.{result_ok}
 use Rattle.std.specs.Option.{option_map}
 use Rattle.field_groups.specs.Field.{Field}
 use Rattle.order_meaning.specs.declared.Side.{Side}
-use Rattle.order_meaning.specs.declared.Side.TheVariants.{Client, Venue}
 use Rattle.order_meaning.specs.declared.names.Names.{Names}
 use Rattle.pair_entries.specs.declared.entry.Out.{Out}
 use Rattle.pair_entries.specs.declared.entry.Entry.{Entry}
-use Rattle.pair_journal.specs.Numbers.{is_side, outs_to}
+use Rattle.pair_journal.specs.Numbers.{outs_to}
 use Rattle.event_decisions.specs.Body.{fields_of}
 use Rattle.life_laws.specs.Forms.{Placed, placed_at, placed, all_placed}
-use Rattle.life_laws.specs.Receiver.{IsSent, AreSent, behind_header, message_of_out}
+use Rattle.life_laws.specs.Receiver.{IsSent, AreSent, message_of_out}
 use Rattle.book_laws.specs.Heard.{Heard, heard_by, heard_out, message_to, with_resend}
-use Rattle.book_laws.proofs.Contents.{content_read}
-use Rattle.book_laws.proofs.EntryFollows.{header_none}
+use Rattle.book_laws.proofs.EntryFollows.{content_kept}
+use Rattle.book_laws.proofs.Places.{in-front}
+use Rattle.book_laws.proofs.Sides.{in_outs}
 use Rattle.book_laws.specs.Pairs.{given, heard_at}
 use Rattle.book_laws.specs.Keeps.{In}
 
 -- ---- one out
-
-side_is : (side at : Side) → is_side side at ≡ true → at ≡ side
-side_is Client Client is = refl
-side_is Client Venue is = absurd (cc is)
-side_is Venue Client is = absurd (cc is)
-side_is Venue Venue is = refl
-
-content_kept : (names : Names) (side : Side) (out : Out) → IsSent names side out
-    → behind_header (fields_of out.content) ≡ fields_of out.content
-content_kept names side out sent =
-    let read : fields_of out.content ≡ sent.fields =
-    ap fields_of sent.content ∙ content_read sent.fields sent.sendable.good sent.sendable.few in
-    ap behind_header read ∙ header_none sent.fields sent.no_header ∙ sym read
 
 -- an out is heard alike by its content and as its receiver sees it
 pub heard_kept : (names : Names) (side : Side) (out : Out) → IsSent names side out
@@ -43,7 +28,8 @@ pub heard_kept : (names : Names) (side : Side) (out : Out) → IsSent names side
 heard_kept names side out sent same =
     ap (λ (fields : List Field). heard_by out.number out.resend out.msg_type fields
     (option_map (with_resend out.resend) (result_ok (message_to side out.msg_type fields))))
-    (content_kept names side out sent)
+    (content_kept out.content sent.fields sent.content sent.sendable.good sent.sendable.few
+    sent.no_header)
     ∙ ap (λ (s : Side). heard_by out.number out.resend out.msg_type (fields_of out.content)
     (option_map (with_resend out.resend)
     (result_ok (message_to s out.msg_type (fields_of out.content))))) (sym same)
@@ -55,11 +41,6 @@ in-place : {X : Type 0} (x : X) (xs : List X) → In x xs → (k : ℕ) × (slic
 in-place x [] i = absurd i
 in-place x (y ∷ ys) (inl same) = (0, ap Some (sym same))
 in-place x (y ∷ ys) (inr i) = let at = in-place x ys i in (suc at.0, at.1)
-
-in-left : {X : Type 0} (x : X) (xs ys : List X) → In x xs → In x (xs ++ ys)
-in-left x [] ys i = absurd i
-in-left x (y ∷ xs) ys (inl same) = inl same
-in-left x (y ∷ xs) ys (inr i) = inr (in-left x xs ys i)
 
 in-right : {X : Type 0} (x : X) (xs ys : List X) → In x ys → In x (xs ++ ys)
 in-right x [] ys i = i
@@ -75,7 +56,7 @@ module _ (side : Side) where
       → In out (outs_to side e.outs) → In (placed_at e.at out) (all_placed side entries)
   in-placed e [] i out o = absurd i
   in-placed e (x ∷ entries) (inl same) out o =
-      in-left (placed_at e.at out) (map (placed_at x.at) (outs_to side x.outs))
+      in-front (placed_at e.at out) (map (placed_at x.at) (outs_to side x.outs))
       (all_placed side entries)
       (subst (λ (y : Entry). In (placed_at e.at out) (map (placed_at y.at) (outs_to side y.outs)))
       same (in-map (placed_at e.at) out (outs_to side e.outs) o))
@@ -103,17 +84,6 @@ module _ (side : Side) where
   out_sent names entries sent e i out o =
       placed_sent names entries sent (placed_at e.at out) (in-placed e entries i out o)
 
-  outs_side : (outs : List Out) (out : Out) → In out (outs_to side outs) → out.side ≡ side
-  outs_side [] out o = absurd o
-  outs_side (x ∷ outs) out o = by (is_side side x.side) refl o (λ i. outs_side outs out i)
-    where
-      by : (b : Bool) → is_side side x.side ≡ b
-          → In out (cond b (x ∷ outs_to side outs) (outs_to side outs))
-          → (In out (outs_to side outs) → out.side ≡ side) → out.side ≡ side
-      by true is (inl same) later = ap (λ (y : Out). y.side) same ∙ side_is side x.side is
-      by true is (inr i) later = later i
-      by false is i later = later i
-
   map_same : (f g : Out → Heard) (outs : List Out) → ((out : Out) → In out outs → f out ≡ g out)
       → map f outs ≡ map g outs
   map_same f g [] same = refl
@@ -126,4 +96,4 @@ module _ (side : Side) where
       → given side e ≡ map heard_out (outs_to side e.outs)
   given_is names e sent = map_same (λ out. heard_at side (message_of_out out)) heard_out
       (outs_to side e.outs)
-      (λ out o. heard_kept names side out (sent out o) (outs_side e.outs out o))
+      (λ out o. heard_kept names side out (sent out o) (in_outs side e.outs out o).1)

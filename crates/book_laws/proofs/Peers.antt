@@ -11,9 +11,8 @@ use Rattle.order_meaning.specs.declared.Side.{Side}
 use Rattle.order_meaning.specs.declared.Side.TheVariants.{Client, Venue}
 use Rattle.pair_entries.specs.declared.entry.Entry.{Entry}
 use Rattle.book_laws.specs.Heard.{Sort, Plain, Heard, is_reject}
-use Rattle.book_laws.specs.SetAside.{Conversation, is_refusal, is_number}
-use Rattle.book_laws.specs.SetAside.{names, answers, is_answered_off, refuses, is_refused, counts}
-use Rattle.book_laws.specs.SetAside.{sent_by, took_of}
+use Rattle.book_laws.specs.SetAside.{Conversation, is_refusal, is_number, names, answers}
+use Rattle.book_laws.specs.SetAside.{is_answered_off, refuses, is_refused, counts, sent_by, took_of}
 use Rattle.book_laws.specs.Books.{asked42, asked50, told42, told50, book42, book50}
 use Rattle.book_laws.specs.Pairs.{given, pair, taken}
 use Rattle.book_laws.proofs.Tests.{counts-plain}

@@ -3,7 +3,7 @@ use Rattle.std.proofs.Common.{◌≡◌, List, [], ◌∷◌, ◌++◌, refl, sy
 use Rattle.pair_entries.specs.declared.entry.Entry.{Entry}
 use Rattle.book_laws.specs.Keeps.{In, Each}
 
-in-front : {X : Type 0} (z : X) (xs ys : List X) → In z xs → In z (xs ++ ys)
+pub in-front : {X : Type 0} (z : X) (xs ys : List X) → In z xs → In z (xs ++ ys)
 in-front z [] ys i = absurd i
 in-front z (x ∷ xs) ys (inl same) = inl same
 in-front z (x ∷ xs) ys (inr i) = inr (in-front z xs ys i)
@@ -47,8 +47,7 @@ module _ (P : List Entry → Entry → Type 0) where
   later before [] each z i = absurd i
   later before (e ∷ entries) each z (inl same) = record {
     past = before;
-    has = subst (P before)
-        (sym same) each.0;
+    has = subst (P before) (sym same) each.0;
     over = λ w i. i;
   }
   later before (e ∷ entries) each z (inr i) =

@@ -8,7 +8,7 @@ use Rattle.std.proofs.lemmas.Slice.Eq.{bytes_eq-Decides}
 use Rattle.order_meaning.specs.declared.Side.{Side}
 use Rattle.order_meaning.specs.declared.Side.TheVariants.{Client, Venue}
 use Rattle.session_core.specs.declared.act.Act.{Act}
-use Rattle.session_core.specs.declared.act.Act.TheVariants.{Take, Skip, Say, Resend, HangUp}
+use Rattle.session_core.specs.declared.act.Act.TheVariants.{Say}
 use Rattle.session_core.specs.declared.act.Admin.{Admin}
 use Rattle.session_core.specs.declared.act.Admin.TheVariants as admin
 use Rattle.session_logon.specs.Content.{said}
@@ -53,10 +53,7 @@ says_quiet side heart h n (Say a ∷ acts) = (
   admin_quiet side a heart n h.number h.msg_type h.echo,
   says_quiet side heart h (n + 1) acts,
 )
-says_quiet side heart h n (Take ∷ acts) = says_quiet side heart h n acts
-says_quiet side heart h n (Skip ∷ acts) = says_quiet side heart h n acts
-says_quiet side heart h n (Resend from to ∷ acts) = says_quiet side heart h n acts
-says_quiet side heart h n (HangUp ∷ acts) = says_quiet side heart h n acts
+says_quiet side heart h n (act ∷ acts) = says_quiet side heart h n acts
 
 -- ---- a refusal
 

@@ -4,20 +4,15 @@ use Rattle.std.proofs.Common.{None, sym, ap, ◌∙◌}
 use Rattle.field_groups.specs.Field.{Field}
 use Rattle.message_tables.specs.Tables.{Message}
 use Rattle.order_meaning.specs.declared.Side.TheVariants.{Client, Venue}
-use Rattle.row_values.specs.Kinds.{judge}
 use Rattle.reports_fix42.specs.Message.{message42}
 use Rattle.rule_rows.specs.ByRules.{by_rules, lack_by}
 use Rattle.report_rules.specs.Down.{IsReport50, Rejects50, Reports50}
-use Rattle.report_rules.specs.Rules.{written}
-use Rattle.report_rules.specs.Rules.{kinds, rules_for}
+use Rattle.report_rules.specs.Rules.{written, kinds, rules_for}
 use Rattle.report_rules.proofs.SenseDown.{not_lacking}
 use Rattle.sound_laws.specs.Sound.{without_resend}
-use Rattle.sound_laws.proofs.PlainFields.{clear_fields}
-use Rattle.event_decisions.specs.Body.{first_value, reading_of}
-use Rattle.event_decisions.proofs.Bodies.{bodies_are_read}
 use Rattle.message_answers.specs.Message.{is_refusal, message_of}
 use Rattle.message_answers.specs.Translated.{GoesDown}
-use Rattle.message_answers.proofs.ReadShapes.{shape, venue_report}
+use Rattle.message_answers.proofs.ReadShapes.{venue_report}
 use Rattle.message_answers.proofs.SaidTexts.{IsShortId}
 use Rattle.message_answers.proofs.SentFields.{report_given, stands}
 use Rattle.book_laws.specs.Heard.{message_to, sort_of}
@@ -49,10 +44,7 @@ module _ (body : List ℕ) (m : Message) (reads : message_of Venue body ≡ Ok m
       → IfSome original IsShortId → (goes : GoesDown original m text)
       → IsOn Venue m goes.client text
   report_on original text known goes =
-      let fields = (reading_of body).fields in
-      let report = venue_report Venue fields (reading_of body).fault (message_of Venue body) m reads
-      (clear_fields judge None fields (bodies_are_read body).good) refl none
-      (shape (first_value fields) fields (reading_of body).fault Venue) in
+      let report = venue_report Venue body m reads refl none in
       let is = stands m report original known text goes in
       let made : by_rules kinds (rules_for original m) m ≡ goes.client =
       (not_lacking (lack_by kinds (rules_for original m) m)

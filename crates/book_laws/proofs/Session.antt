@@ -24,8 +24,7 @@ use Rattle.pair_journal.specs.Numbers.{Taking, Counts, Fills, Resets}
 use Rattle.sound_laws.proofs.Each.{both}
 use Rattle.event_decisions.specs.Body.{fields_of, type_of}
 use Rattle.event_decisions.specs.Laws.{taking_by, taking_of}
-use Rattle.life_laws.specs.Receiver.{is_administrative, message_by, read_as, read_body}
-use Rattle.life_laws.specs.Receiver.{read_reset}
+use Rattle.life_laws.specs.Receiver.{is_administrative, message_by, read_as, read_body, read_reset}
 use Rattle.life_laws.specs.Taken.{Read, GapFill, Reset, Other}
 use Rattle.book_laws.specs.Heard.{Sort, Plain, sort_of}
 use Rattle.book_laws.specs.HeardLaws.{BodiesAreReadAlike, HasNumber}
@@ -34,7 +33,7 @@ use Rattle.book_laws.specs.HeardLaws.{SessionsAreHeardPlain, SentSessionsAreHear
 -- ---- what a body is taken for
 
 -- the kind of a SequenceReset(4)
-abbrev reset_kind : List Field → What
+abbrev pub reset_kind : List Field → What
 reset_kind fields = sequence_reset_kind (is_yes (value_at GAP_FILL_FLAG fields))
     (required (read_between 1 ALL_USED) (value_at NEW_SEQ_NO fields))
 
@@ -85,7 +84,8 @@ module _ (side : Side) (msg_type : List ℕ) (fields : List Field) where
       by false false false false false false false is = refl
 
   -- a SequenceReset(4) is of its kind
-  reset_is : bytes_eq msg_type (codes "4") ≡ true → kind_of side msg_type fields ≡ reset_kind fields
+  pub reset_is : bytes_eq msg_type (codes "4") ≡ true
+      → kind_of side msg_type fields ≡ reset_kind fields
   reset_is test =
       ap (λ (t : List ℕ). kind_of side t fields) ((bytes_eq-Decides msg_type (codes "4")).0 test)
 
@@ -94,7 +94,7 @@ module _ (side : Side) (msg_type : List ℕ) (fields : List Field) where
   abbrev read : ℕ → Read
   read number = read_as number msg_type fields
 
-  read_other : (number : ℕ) → bytes_eq msg_type (codes "4") ≡ false
+  pub read_other : (number : ℕ) → bytes_eq msg_type (codes "4") ≡ false
       → read number ≡ Other (message_by number msg_type fields) (is_administrative msg_type)
   read_other number none = ap (λ (b : Bool). if b then read_reset number (reset_kind fields)
       else Other (message_by number msg_type fields) (is_administrative msg_type)) none
@@ -168,8 +168,7 @@ plain_is sort is = absurd cc
 
 -- what holds of each of some types holds of one among them
 among : (test : List ℕ → Bool) (types : List (List ℕ)) (msg_type : List ℕ)
-    → list_all test types ≡ true → list_any (bytes_eq msg_type) types ≡ true
-    → test msg_type ≡ true
+    → list_all test types ≡ true → list_any (bytes_eq msg_type) types ≡ true → test msg_type ≡ true
 among test [] msg_type all one = absurd cc
 among test (t ∷ types) msg_type all one =
     by (bytes_eq msg_type t) refl one (λ rest. among test types msg_type parts.1 rest)
@@ -178,8 +177,7 @@ among test (t ∷ types) msg_type all one =
     parts = both (test t) (list_all test types) all
 
     by : (b : Bool) → bytes_eq msg_type t ≡ b → (b || list_any (bytes_eq msg_type) types) ≡ true
-        → (list_any (bytes_eq msg_type) types ≡ true → test msg_type ≡ true)
-        → test msg_type ≡ true
+        → (list_any (bytes_eq msg_type) types ≡ true → test msg_type ≡ true) → test msg_type ≡ true
     by true e one later = ap test ((bytes_eq-Decides msg_type t).0 e) ∙ parts.0
     by false e one later = later one
 

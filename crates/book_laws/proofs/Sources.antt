@@ -1,7 +1,6 @@
 -- What a refusal names by a number: a message that went on, by its out.
-use Rattle.std.proofs.Common.{◌≡◌, ℕ, ◌==◌, ◌&&◌, ◌||◌, not, Bool, true, false, List}
-use Rattle.std.proofs.Common.{[], ◌∷◌, codes, Option, Some, None}
-use Rattle.std.proofs.Common.{refl, sym, ap, subst, ◌∙◌, arith, inl, inr}
+use Rattle.std.proofs.Common.{◌≡◌, ℕ, ◌==◌, ◌&&◌, ◌||◌, not, Bool, true, false, List, [], ◌∷◌}
+use Rattle.std.proofs.Common.{Option, Some, None, refl, sym, ap, subst, ◌∙◌, arith, inl, inr}
 use Rattle.std.proofs.Common.{if◌then◌else◌}
 use Rattle.std.specs.Prelude.{cond, is_some}
 use Rattle.std.specs.List.{list_all, list_any}
@@ -12,69 +11,51 @@ use Rattle.order_meaning.specs.declared.Side.{Side}
 use Rattle.order_meaning.specs.declared.Side.TheVariants.{Client, Venue}
 use Rattle.order_meaning.specs.declared.names.Names.{Names}
 use Rattle.frame_grammar.specs.Frame.{IsBody}
+use Rattle.sound_laws.proofs.Each.{not_true}
 use Rattle.pair_entries.specs.declared.entry.Took.{Took}
 use Rattle.pair_entries.specs.declared.entry.Out.{Out}
 use Rattle.pair_entries.specs.declared.entry.Entry.{Entry}
-use Rattle.pair_journal.specs.Given.{Given, given as given_out, has_letter, is_source}
+use Rattle.pair_journal.specs.Given.{given as given_out, has_letter, is_source}
 use Rattle.pair_journal.specs.Given.{letter_of, letters_to, numbered, source_in, source_of}
 use Rattle.pair_journal.specs.Numbers.{is_side, outs_to}
-use Rattle.event_decisions.specs.Body.{fields_of, reading_of, type_of}
+use Rattle.event_decisions.specs.Body.{type_of}
 use Rattle.event_decisions.specs.Laws.{AreAdmin}
 use Rattle.message_answers.specs.Answer.{other}
-use Rattle.message_answers.specs.Message.{is_refusal_type}
+use Rattle.message_answers.proofs.KnownNumbers.{given_next, given_of, source_at}
+use Rattle.message_answers.proofs.Letters.{letter_to}
+use Rattle.message_answers.proofs.ReadShapes.{said_type}
 use Rattle.message_answers.proofs.Typed.{typed}
 use Rattle.life_laws.specs.Receiver.{IsSent, is_administrative}
-use Rattle.book_laws.specs.Heard.{Request, Report, Plain, heard_out, is_among, is_reject}
-use Rattle.book_laws.specs.Heard.{refusal_sort, report_types, request_types, sort_of}
-use Rattle.book_laws.specs.HeardLaws.{sort_from}
-use Rattle.book_laws.proofs.Types.{said_type}
+use Rattle.book_laws.specs.Heard.{heard_out, is_among, is_reject, sort_of}
+use Rattle.book_laws.specs.Learned.{types_to}
+use Rattle.book_laws.proofs.EntryFollows.{type_to}
 use Rattle.book_laws.specs.Keeps.{In}
 use Rattle.book_laws.proofs.Made.{Going, Made, MadeNone, MadeOff, MadeOn}
 use Rattle.book_laws.proofs.Made.{MadeRepeat, MadeRest, MadeTold}
+use Rattle.book_laws.proofs.Sides.{far_side, in_outs, own_side}
 
 -- ---- letters
-
--- what holds of each letter holds of one among them
-pub letter_among : (test : ℕ → Bool) (letters : List ℕ) (letter : ℕ) → list_all test letters ≡ true
-    → list_any (λ l. letter == l) letters ≡ true → test letter ≡ true
-letter_among test [] letter all is = absurd (cc is)
-letter_among test (l ∷ ls) letter all is =
-    by (test l) (letter == l) refl refl (λ rest more. letter_among test ls letter rest more)
-  where
-    by : (t e : Bool) → test l ≡ t → (letter == l) ≡ e
-        → (list_all test ls ≡ true → list_any (λ x. letter == x) ls ≡ true → test letter ≡ true)
-        → test letter ≡ true
-    by false e passes same rest =
-        let wrong : (false && list_all test ls) ≡ true =
-        subst (λ (b : Bool). (b && list_all test ls) ≡ true) passes all in absurd (cc wrong)
-    by true true passes same rest =
-        subst (λ (x : ℕ). test x ≡ true) (sym (eqb-true letter l same)) passes
-    by true false passes same rest = rest
-        (subst (λ (b : Bool). (b && list_all test ls) ≡ true) passes all)
-        (subst (λ (b : Bool). (b || list_any (λ x. letter == x) ls) ≡ true) same is)
-
-pub not_true : (b : Bool) → not b ≡ true → b ≡ false
-not_true true is = absurd (cc is)
-not_true false is = refl
 
 -- a letter that is translated to a side is of no Reject, and of no message of a session
 letter_passes : (side : Side) (letter : ℕ) (read : Bool)
     → list_any (λ l. letter == l) (letters_to side) ≡ true
     → is_reject (sort_of (letter ∷ []) read) ≡ false
-letter_passes Client letter read is =
-    not_true _ (letter_among (λ l. not (is_reject (sort_of (l ∷ []) read))) (codes "89") letter
-    refl is)
-letter_passes Venue letter read is =
-    not_true _ (letter_among (λ l. not (is_reject (sort_of (l ∷ []) read))) (codes "DFGH") letter
-    refl is)
+letter_passes side letter read is = not_true _
+    (letter_to side (λ l. not (is_reject (sort_of (l ∷ []) read))) letter (all side) is)
+  where
+    all : (side : Side)
+        → list_all (λ l. not (is_reject (sort_of (l ∷ []) read))) (letters_to side) ≡ true
+    all Client = refl
+    all Venue = refl
 
-letter_apart : (side : Side) (letter : ℕ)
-    → list_any (λ l. letter == l) (letters_to side) ≡ true
+letter_apart : (side : Side) (letter : ℕ) → list_any (λ l. letter == l) (letters_to side) ≡ true
     → is_administrative (letter ∷ []) ≡ false
-letter_apart Client letter is = not_true _
-    (letter_among (λ l. not (is_administrative (l ∷ []))) (codes "89") letter refl is)
-letter_apart Venue letter is = not_true _
-    (letter_among (λ l. not (is_administrative (l ∷ []))) (codes "DFGH") letter refl is)
+letter_apart side letter is =
+    not_true _ (letter_to side (λ l. not (is_administrative (l ∷ []))) letter (all side) is)
+  where
+    all : (side : Side) → list_all (λ l. not (is_administrative (l ∷ []))) (letters_to side) ≡ true
+    all Client = refl
+    all Venue = refl
 
 one_letter : (msg_type : List ℕ) (letter : ℕ) → letter_of msg_type ≡ Some letter
     → msg_type ≡ letter ∷ []
@@ -98,8 +79,7 @@ numbered_is number [] out is = absurd (cc is)
 numbered_is number (x ∷ outs) out is = by (x.number == number) refl is
     (λ later. numbered_is number outs out later)
   where
-    by : (b : Bool) → (x.number == number) ≡ b
-        → numbered_by x (numbered number outs) b ≡ Some out
+    by : (b : Bool) → (x.number == number) ≡ b → numbered_by x (numbered number outs) b ≡ Some out
         → (numbered number outs ≡ Some out → IsNumbered number outs out)
         → IsNumbered number (x ∷ outs) out
     by true same is later =
@@ -117,8 +97,7 @@ numbered_some number [] out i same none = i
 numbered_some number (x ∷ outs) out i same none = by (x.number == number) refl none i
     (λ j later. numbered_some number outs out j same later)
   where
-    by : (b : Bool) → (x.number == number) ≡ b
-        → numbered_by x (numbered number outs) b ≡ None
+    by : (b : Bool) → (x.number == number) ≡ b → numbered_by x (numbered number outs) b ≡ None
         → In out (x ∷ outs) → (In out outs → numbered number outs ≡ None → ⊥) → ⊥
     by true test none i later = absurd (cc none)
     by false test none (inl one) later =
@@ -167,19 +146,9 @@ source_is e out at is = by e.took (letter_of out.msg_type) refl refl is
     by (Some took) (Some letter) a b is =
         by_test took letter (is_source took out.side letter) a b refl is
 
-parts : (a b c : Bool) → (a && b && c) ≡ true → (a ≡ true) × (b ≡ true) × (c ≡ true)
+pub parts : (a b c : Bool) → (a && b && c) ≡ true → (a ≡ true) × (b ≡ true) × (c ≡ true)
 parts true true true is = (refl, refl, refl)
-parts true true false is = absurd (cc is)
-parts true false c is = absurd (cc is)
-parts false b c is = absurd (cc is)
-
-own_side : (side : Side) → is_side side side ≡ true
-own_side Client = refl
-own_side Venue = refl
-
-far_side : (side : Side) → is_side (other side) side ≡ false
-far_side Client = refl
-far_side Venue = refl
+parts a b c is = absurd (cc is)
 
 pub same_took : (t : Option Took) (a b : Took) → t ≡ Some a → t ≡ Some b → a ≡ b
 same_took t a b x y = cc (x, y)
@@ -269,27 +238,6 @@ pub record IsKnown (names : Names) (e : Entry) : Type 0 where
 abbrev pub AreKnown : Names → List Entry → Type 0
 AreKnown names entries = (e : Entry) → In e entries → IsKnown names e
 
-pub in_outs : (side : Side) (outs : List Out) (out : Out) → In out (outs_to side outs)
-    → In out outs × (out.side ≡ side)
-in_outs side [] out i = absurd i
-in_outs side (x ∷ outs) out i = by (is_side side x.side) refl i
-    (λ j. in_outs side outs out j)
-  where
-    at_side : (a b : Side) → is_side a b ≡ true → b ≡ a
-    at_side Client Client is = refl
-    at_side Client Venue is = absurd (cc is)
-    at_side Venue Client is = absurd (cc is)
-    at_side Venue Venue is = refl
-
-    by : (b : Bool) → is_side side x.side ≡ b
-        → In out (cond b (x ∷ outs_to side outs) (outs_to side outs))
-        → (In out (outs_to side outs) → In out outs × (out.side ≡ side))
-        → In out (x ∷ outs) × (out.side ≡ side)
-    by true is (inl same) later =
-        (inl same, ap (λ (o : Out). o.side) same ∙ at_side side x.side is)
-    by true is (inr j) later = let l = later j in (inr l.0, l.1)
-    by false is j later = let l = later j in (inr l.0, l.1)
-
 -- an out stands among those to its side
 pub own_out : (outs : List Out) (out : Out) → In out outs → In out (outs_to out.side outs)
 own_out [] out i = absurd i
@@ -327,24 +275,6 @@ more_went x entries w = record {
   went = w.went;
 }
 
-abbrev given_of : Entry → Option Out → Option Given
-given_of entry o = elim o [
-  | None ↦ None
-  | Some out ↦ Some (record { entry = entry; out = out })
-]
-
-abbrev given_next : Option Given → Option Given → Option Given
-given_next rest one = elim one [
-  | None ↦ rest
-  | Some x ↦ Some x
-]
-
-abbrev source_at : Option Given → Option (ℕ × ℕ)
-source_at one = elim one [
-  | None ↦ None
-  | Some x ↦ source_in x
-]
-
 module _ (names : Names) (side : Side) (number : ℕ) where
   pub source_went : (entries : List Entry) (at : ℕ × ℕ) → AreKnown names entries
       → source_of side number entries ≡ Some at → WentUnder names side number at entries
@@ -374,76 +304,38 @@ module _ (names : Names) (side : Side) (number : ℕ) where
 
 -- ---- and the other way round
 
-among_report : (l : ℕ) → is_among report_types (l ∷ []) ≡ true
-    → list_any (λ b. l == b) (codes "89") ≡ true
-among_report l is = by (l == 56) (l == 57) refl refl is
+-- the letters that are translated to a side are of the types that it takes
+letters : (side : Side) (l : ℕ) → is_among (types_to side) (l ∷ []) ≡ true
+    → list_any (λ b. l == b) (letters_to side) ≡ true
+letters Client l is = by (l == 56) (l == 57) is
   where
-    by : (a b : Bool) → (l == 56) ≡ a → (l == 57) ≡ b
-        → is_among report_types (l ∷ []) ≡ true → list_any (λ b. l == b) (codes "89") ≡ true
-    by true b e f is = rw e refl
-    by false true e f is = rw (e, f) refl
-    by false false e f is =
-        let none : is_among report_types (l ∷ []) ≡ false = rw (e, f) refl in
-        absurd (cc (is, none))
-
-among_request : (l : ℕ) → is_among request_types (l ∷ []) ≡ true
-    → list_any (λ b. l == b) (codes "DFGH") ≡ true
-among_request l is = by (l == 68) (l == 70) (l == 71) (l == 72) refl refl refl refl is
+    by : (a b : Bool) → ((a && true) || ((b && true) || false)) ≡ true → (a || (b || false)) ≡ true
+    by true b is = refl
+    by false true is = refl
+    by false false is = absurd (cc is)
+letters Venue l is = by (l == 68) (l == 70) (l == 71) (l == 72) is
   where
-    by : (a b c d : Bool) → (l == 68) ≡ a → (l == 70) ≡ b → (l == 71) ≡ c → (l == 72) ≡ d
-        → is_among request_types (l ∷ []) ≡ true
-        → list_any (λ b. l == b) (codes "DFGH") ≡ true
-    by true b c d e f g h is = rw e refl
-    by false true c d e f g h is = rw (e, f) refl
-    by false false true d e f g h is = rw (e, f, g) refl
-    by false false false true e f g h is = rw (e, f, g, h) refl
-    by false false false false e f g h is =
-        let none : is_among request_types (l ∷ []) ≡ false = rw (e, f, g, h) refl in
-        absurd (cc (is, none))
-
-sort_types : (side : Side) (l : ℕ) (read : Bool) → sort_of (l ∷ []) read ≡ sort_from side
-    → list_any (λ b. l == b) (letters_to (other side)) ≡ true
-sort_types Client l read is = by (is_refusal_type (l ∷ [])) (is_among request_types (l ∷ []))
-    (is_among report_types (l ∷ [])) refl is
-  where
-    never : (b : Bool) → refusal_sort b ≡ Request → ⊥
-    never true e = absurd (cc e)
-    never false e = absurd (cc e)
-
-    by : (a q r : Bool) → is_among request_types (l ∷ []) ≡ q → (if a then refusal_sort read else
-        (if q then Request else (if r then Report else Plain))) ≡ Request
-        → list_any (λ b. l == b) (codes "DFGH") ≡ true
-    by true q r is e = absurd (never read e)
-    by false true r is e = among_request l is
-    by false false true is e = absurd (cc e)
-    by false false false is e = absurd (cc e)
-sort_types Venue l read is = by (is_refusal_type (l ∷ [])) (is_among request_types (l ∷ []))
-    (is_among report_types (l ∷ [])) refl is
-  where
-    never : (b : Bool) → refusal_sort b ≡ Report → ⊥
-    never true e = absurd (cc e)
-    never false e = absurd (cc e)
-
-    by : (a q r : Bool) → is_among report_types (l ∷ []) ≡ r → (if a then refusal_sort read else
-        (if q then Request else (if r then Report else Plain))) ≡ Report
-        → list_any (λ b. l == b) (codes "89") ≡ true
-    by true q r is e = absurd (never read e)
-    by false true r is e = absurd (cc e)
-    by false false true is e = among_report l is
-    by false false false is e = absurd (cc e)
+    by : (a b c d : Bool)
+        → ((a && true) || ((b && true) || ((c && true) || ((d && true) || false)))) ≡ true
+        → (a || (b || (c || (d || false)))) ≡ true
+    by true b c d is = refl
+    by false true c d is = refl
+    by false false true d is = refl
+    by false false false true is = refl
+    by false false false false is = absurd (cc is)
 
 module _ (past : List Entry) (e : Entry) (took : Took) (out : Out) (m : Message)
     (going : Going past e took out m) where
   pub listed : list_any (λ b. m.letter == b) (letters_to (other took.side)) ≡ true
-  listed = sort_types took.side m.letter (is_some (heard_out out).said)
+  listed = letters (other took.side) m.letter
+      (type_to took.side (m.letter ∷ []) (is_some (heard_out out).said)
       (ap (λ (t : List ℕ). sort_of t (is_some (heard_out out).said)) (sym going.typed)
-      ∙ going.on.out_sort)
+      ∙ going.on.out_sort))
 
 module _ (past : List Entry) (e : Entry) (took : Took) (out : Out) (m : Message)
     (going : Going past e took out m) (body : IsBody took.raw) where
   lettered : type_of took.raw ≡ m.letter ∷ []
-  lettered = said_type (type_of took.raw) (fields_of took.raw) (reading_of took.raw).fault m
-      took.side going.read.reads
+  lettered = said_type took.side took.raw m going.read.reads
 
   has : has_letter m.letter took.raw ≡ true
   has = typed m.letter took.raw body.writable.begins lettered

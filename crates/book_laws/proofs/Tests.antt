@@ -6,8 +6,7 @@ use Rattle.std.proofs.lemmas.Bool.{cases_eq}
 use Rattle.std.proofs.lemmas.Bool.Decides.{nat_tests}
 use Rattle.order_meaning.specs.declared.Side.{Side}
 use Rattle.order_meaning.specs.declared.Side.TheVariants.{Client, Venue}
-use Rattle.book_laws.specs.Heard.{Sort, Request, Report, Refusal, Plain, Heard}
-use Rattle.book_laws.specs.Heard.{is_reject}
+use Rattle.book_laws.specs.Heard.{Sort, Request, Report, Refusal, Plain, Heard, is_reject}
 use Rattle.book_laws.specs.HeardLaws.{sort_from}
 use Rattle.book_laws.specs.SetAside.{is_request, is_report, is_refusal, is_number, names, answers}
 use Rattle.book_laws.specs.SetAside.{is_answered_off, refuses, counts}

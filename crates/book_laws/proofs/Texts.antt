@@ -20,7 +20,7 @@ use Rattle.dict_fix42.specs.Sense.{request42}
 use Rattle.dict_fix50.specs.Sense.{request50}
 use Rattle.reports_fix42.specs.Step.{step42}
 use Rattle.reports_fix50.specs.Step.{step50}
-use Rattle.event_decisions.specs.Body.{fields_of, first_value, reading_of, type_of}
+use Rattle.event_decisions.specs.Body.{fields_of}
 use Rattle.event_decisions.specs.Decide.{Asked, Words, out_of}
 use Rattle.message_answers.specs.Answer.{other}
 use Rattle.message_answers.specs.Laws as answers
@@ -30,7 +30,7 @@ use Rattle.message_answers.specs.Message.{refusal_in}
 use Rattle.message_answers.specs.Translated.{GoesOn}
 use Rattle.message_answers.proofs.KnownNumbers.{IsGoodSource, named_good}
 use Rattle.message_answers.proofs.Letters.{among}
-use Rattle.message_answers.proofs.ReadShapes.{shape}
+use Rattle.message_answers.proofs.ReadShapes.{resend_is, said_type}
 use Rattle.message_answers.proofs.SaidTexts.{IsShortId}
 use Rattle.request_rules.specs.Rules.{up_message}
 use Rattle.book_laws.specs.Heard.{Heard, Carries, book_after, cl_ord_id_in, heard_body}
@@ -40,11 +40,11 @@ use Rattle.book_laws.specs.HeardLaws.{AnswersAreHeard, HasItsId, IsHeard, IsHear
 use Rattle.book_laws.specs.HeardLaws.{Off, On, Returned}
 use Rattle.book_laws.proofs.Answered.{NamesFirst, IsAnswer, Nears, Tells, Goes, answer_is}
 use Rattle.book_laws.proofs.Answered.{told_names}
-use Rattle.book_laws.proofs.Contents.{content_read, number_named}
-use Rattle.book_laws.proofs.On.{HasSameId, IsOn, resend_is}
+use Rattle.life_laws.proofs.Received.{content_read}
+use Rattle.book_laws.proofs.Contents.{number_named}
+use Rattle.book_laws.proofs.On.{HasSameId, IsOn}
 use Rattle.book_laws.proofs.Reports.{report_on}
 use Rattle.book_laws.proofs.Requests.{request_on}
-use Rattle.book_laws.proofs.Types.{said_type}
 
 -- ---- refusals
 
@@ -89,9 +89,6 @@ module _ (side : Side) (number : ℕ) (body : List ℕ) (m : Message)
       ∙ ap (λ (r : Result Message Fault). option_map (with_resend m.resend) (result_ok r)) on.read
       ∙ (λ i. Some (record out { resend = on.resend i }))
 
-  typed : type_of body ≡ m.letter ∷ []
-  typed = said_type (type_of body) (fields_of body) (reading_of body).fault m side reads
-
   id_is : (other : Side) → HasSameId other m out
       → HasItsId other (heard_body side number body) given
   id_is Client same = ap (λ (r : Result Message Fault). result_ok r >>= cl_ord_id_in) reads ∙ same
@@ -100,11 +97,9 @@ module _ (side : Side) (number : ℕ) (body : List ℕ) (m : Message)
 
   goes_on : IsHeardOn side (heard_body side number body) given
   goes_on = record {
-    sort = (λ i. sort_of (typed i) (is_some (result_ok (reads i)))) ∙ on.sort;
+    sort = (λ i. sort_of (said_type side body m reads i) (is_some (result_ok (reads i)))) ∙ on.sort;
     out_sort = ap (λ (s : Option Message). sort_of (m.letter ∷ []) (is_some s)) said_is ∙ on.sort;
-    resend = sym (resend_is side (fields_of body) (reading_of body).fault (message_of side body) m
-        reads none (shape (first_value (fields_of body)) (fields_of body) (reading_of body).fault
-        side));
+    resend = sym (resend_is side body m reads none);
     id = id_is side on.id;
     carries = carried side on.carries;
   }
@@ -157,7 +152,7 @@ module _ (given_out : AnswersAreGivenOut) (before : List Entry) (numbered : AreN
             (told_names (other asked.side) (is_business m) (refusal_in m) number (letter ∷ []))
             given (other asked.side) own false;
       }))
-  by_answer words (Goes m reads none original known written on is) =
+  by_answer words (Goes m reads none unused original known written on is) =
       subst AreHeard (sym is) (λ given. On refl
       (goes asked.side asked.number asked.body m reads none original known written on))
 

@@ -1,8 +1,7 @@
 -- What was taken is heard as it was said: its header says nothing.
 use Rattle.std.proofs.Common.{◌≡◌, ℕ, ◌==◌, ◌||◌, ◌&&◌, length, arith, Bool, true, false, not, List}
-use Rattle.std.proofs.Common.{[], ◌∷◌, codes}
-use Rattle.std.proofs.Common.{Option, Some, None, Result, Ok, Err, refl, sym, ap, ◌∙◌}
-use Rattle.std.proofs.Common.{if◌then◌else◌}
+use Rattle.std.proofs.Common.{[], ◌∷◌, codes, Option, Some, None, Result, Ok, Err, refl, sym, ap}
+use Rattle.std.proofs.Common.{◌∙◌, if◌then◌else◌}
 use Rattle.std.specs.Prelude.{cond, find, unwrap_or}
 use Rattle.std.proofs.lemmas.Bool.{eqb-true}
 use Rattle.std.proofs.lemmas.Bool.Decides.{nat_tests}
@@ -15,7 +14,7 @@ use Rattle.std.proofs.lemmas.Slice.Eq.{bytes_eq-Decides}
 use Rattle.field_groups.specs.Field.{Field}
 use Rattle.message_tables.specs.Tables.{Message, ◌>>=◌, flag_of, is_one_of, value_at}
 use Rattle.order_meaning.specs.declared.Side.{Side}
-use Rattle.order_meaning.specs.declared.Side.TheVariants.{Client, Venue}
+use Rattle.order_meaning.specs.declared.Side.TheVariants.{Client}
 use Rattle.order_meaning.specs.declared.fault.Fault.{Fault}
 use Rattle.session_core.specs.declared.head.What.{What}
 use Rattle.session_core.specs.declared.head.What.TheVariants as what
@@ -29,14 +28,14 @@ use Rattle.session_logon.specs.Reasons.{required, read_between, text_fault}
 use Rattle.field_groups.specs.HeadValues as values
 use Rattle.pair_entries.specs.declared.entry.Took.{Took}
 use Rattle.pair_entries.specs.declared.entry.Entry.{Entry}
-use Rattle.pair_journal.specs.Numbers.{is_side}
 use Rattle.row_values.specs.Kinds.{resend_of}
-use Rattle.event_decisions.specs.Body.{fields_of, first_value, reading_of, type_of}
+use Rattle.event_decisions.specs.Body.{fields_of, type_of}
 use Rattle.event_decisions.specs.Decide.{is_for_application}
 use Rattle.event_decisions.specs.Laws.{what_of}
 use Rattle.message_answers.specs.Answer.{other}
 use Rattle.message_answers.specs.Message.{is_refusal, is_refusal_type, message_of}
-use Rattle.message_answers.proofs.ReadShapes.{shape}
+use Rattle.message_answers.proofs.Letters.{among}
+use Rattle.message_answers.proofs.ReadShapes.{resend_is}
 use Rattle.life_laws.specs.Justified.{raw_of}
 use Rattle.life_laws.specs.Receiver.{behind_header, header_tags, is_administrative, is_in_header}
 use Rattle.life_laws.specs.Receiver.{message_by, read_body, read_reset}
@@ -44,8 +43,9 @@ use Rattle.life_laws.specs.Taken.{Read, Other}
 use Rattle.book_laws.specs.Heard.{Heard, Plain, cl_ord_id_in, heard_body, heard_by, id_named_in}
 use Rattle.book_laws.specs.Heard.{sort_of, with_resend}
 use Rattle.book_laws.specs.HeardLaws.{IsHeardRefusal, RefusalsAreHeard}
-use Rattle.book_laws.proofs.On.{resend_is}
-use Rattle.book_laws.proofs.Session.{plain_type}
+use Rattle.book_laws.proofs.Session.{plain_type, reset_is, reset_kind}
+use Rattle.book_laws.proofs.Session.{read_other as read_other_type}
+use Rattle.book_laws.proofs.Sides.{far_side, own_side}
 use Rattle.book_laws.specs.Laws.{HeadersSayNothing}
 use Rattle.book_laws.specs.Pairs.{heard_from, message_in, taken}
 
@@ -53,9 +53,8 @@ use Rattle.book_laws.specs.Pairs.{heard_from, message_in, taken}
 
 is_for_reset : (a : Bool) (r : Result ℕ ℕ) → is_for_application (sequence_reset_kind a r) ≡ false
 is_for_reset true (Ok to) = refl
-is_for_reset true (Err reason) = refl
 is_for_reset false (Ok to) = refl
-is_for_reset false (Err reason) = refl
+is_for_reset a r = refl
 
 abbrev faulty_of : What → ℕ
 faulty_of (what.Faulty tag reason) = tag
@@ -63,21 +62,10 @@ faulty_of other = NEW_SEQ_NO
 
 faulty_reset : (a : Bool) (r : Result ℕ ℕ) → faulty_of (sequence_reset_kind a r) ≡ NEW_SEQ_NO
 faulty_reset true (Ok to) = refl
-faulty_reset true (Err reason) = refl
 faulty_reset false (Ok to) = refl
-faulty_reset false (Err reason) = refl
-
-abbrev reset_kind : List Field → What
-reset_kind fields = sequence_reset_kind (is_yes (value_at GAP_FILL_FLAG fields))
-    (required (read_between 1 ALL_USED) (value_at NEW_SEQ_NO fields))
-
-is_type : (a b : List ℕ) → bytes_eq a b ≡ true → a ≡ b
-is_type a b test = (bytes_eq-Decides a b).0 test
+faulty_reset a r = refl
 
 module _ (side : Side) (msg_type : List ℕ) (fields : List Field) where
-  reset_is : bytes_eq msg_type (codes "4") ≡ true → kind_of side msg_type fields ≡ reset_kind fields
-  reset_is test = ap (λ (t : List ℕ). kind_of side t fields) (is_type msg_type (codes "4") test)
-
   -- what is for the application is no SequenceReset
   pub no_reset : is_for_application (kind_of side msg_type fields) ≡ true
       → bytes_eq msg_type (codes "4") ≡ false
@@ -86,7 +74,8 @@ module _ (side : Side) (msg_type : List ℕ) (fields : List Field) where
       by : (b : Bool) → bytes_eq msg_type (codes "4") ≡ b → bytes_eq msg_type (codes "4") ≡ false
       by false test = test
       by true test =
-          let wrong : true ≡ false = sym is ∙ ap is_for_application (reset_is test)
+          let wrong : true ≡ false = sym is
+          ∙ ap is_for_application (reset_is side msg_type fields test)
           ∙ is_for_reset (is_yes (value_at GAP_FILL_FLAG fields))
           (required (read_between 1 ALL_USED) (value_at NEW_SEQ_NO fields)) in absurd (cc wrong)
 
@@ -94,7 +83,7 @@ module _ (side : Side) (msg_type : List ℕ) (fields : List Field) where
   pub faulty_tag : (tag reason : ℕ) → kind_of side msg_type fields ≡ what.Faulty tag reason
       → bytes_eq msg_type (codes "4") ≡ true → tag ≡ NEW_SEQ_NO
   faulty_tag tag reason is test =
-      sym (ap faulty_of is) ∙ ap faulty_of (reset_is test)
+      sym (ap faulty_of is) ∙ ap faulty_of (reset_is side msg_type fields test)
       ∙ faulty_reset (is_yes (value_at GAP_FILL_FLAG fields))
       (required (read_between 1 ALL_USED) (value_at NEW_SEQ_NO fields))
 
@@ -106,6 +95,11 @@ module _ (side : Side) (msg_type : List ℕ) (fields : List Field) where
       (bytes_eq msg_type (codes "3")) (bytes_eq msg_type (codes "4"))
       (bytes_eq msg_type (codes "5")) refl refl refl refl refl refl is
     where
+      of : (letter : ℕ) → bytes_eq msg_type (letter ∷ []) ≡ true
+          → is_one_of (codes "A01245") letter ≡ true → is_administrative msg_type ≡ true
+      of letter test is = ap is_administrative ((bytes_eq-Decides msg_type (letter ∷ [])).0 test)
+          ∙ among (λ l. is_administrative (l ∷ [])) (codes "A01245") letter refl is
+
       by : (a b c d e f g : Bool) → bytes_eq msg_type (codes "A") ≡ a
           → bytes_eq msg_type (codes "0") ≡ b → bytes_eq msg_type (codes "1") ≡ c
           → bytes_eq msg_type (codes "2") ≡ d → bytes_eq msg_type (codes "4") ≡ f
@@ -119,33 +113,19 @@ module _ (side : Side) (msg_type : List ℕ) (fields : List Field) where
           else (if f then reset_kind fields
           else (if g then what.Logout else what.App))))))) ≡ false
           → is_administrative msg_type ≡ true
-      by true b c d e f g p q r s u v is = ap is_administrative (is_type msg_type (codes "A") p)
-      by false true c d e f g p q r s u v is =
-          ap is_administrative (is_type msg_type (codes "0") q)
-      by false false true d e f g p q r s u v is =
-          ap is_administrative (is_type msg_type (codes "1") r)
-      by false false false true e f g p q r s u v is =
-          ap is_administrative (is_type msg_type (codes "2") s)
-      by false false false false true f g p q r s u v is = absurd (cc is)
-      by false false false false false true g p q r s u v is =
-          ap is_administrative (is_type msg_type (codes "4") u)
-      by false false false false false false true p q r s u v is =
-          ap is_administrative (is_type msg_type (codes "5") v)
-      by false false false false false false false p q r s u v is = absurd (cc is)
+      by true b c d e f g p q r s u v is = of 65 p refl
+      by false true c d e f g p q r s u v is = of 48 q refl
+      by false false true d e f g p q r s u v is = of 49 r refl
+      by false false false true e f g p q r s u v is = of 50 s refl
+      by false false false false false true g p q r s u v is = of 52 u refl
+      by false false false false false false true p q r s u v is = of 53 v refl
+      by false false false false e f g p q r s u v is = absurd (cc is)
 
 reset_none : (number : ℕ) (kind : What) → message_in (read_reset number kind) ≡ None
 reset_none number (what.GapFill to) = refl
 reset_none number kind = refl
 
 -- ---- what an entry took
-
-own_side : (side : Side) → is_side side side ≡ true
-own_side Client = refl
-own_side Venue = refl
-
-far_side : (side : Side) → is_side (other side) side ≡ false
-far_side Client = refl
-far_side Venue = refl
 
 -- what is heard in the body of a message
 abbrev pub heard_raw : Side → ℕ → List ℕ → Heard
@@ -158,11 +138,8 @@ read_other : (number : ℕ) (raw : List ℕ) → bytes_eq (type_of raw) (codes "
     → number_in (fields_of raw) ≡ Some number → read_body raw
     ≡ Other (message_by number (type_of raw) (fields_of raw)) (is_administrative (type_of raw))
 read_other number raw none numbered =
-    ap (λ (b : Bool). if b
-    then read_reset (unwrap_or (number_in (fields_of raw)) 0) (reset_kind (fields_of raw))
-    else Other (message_by (unwrap_or (number_in (fields_of raw)) 0) (type_of raw) (fields_of raw))
-    (is_administrative (type_of raw))) none
-    ∙ ap (λ (o : Option ℕ). Other (message_by (unwrap_or o 0) (type_of raw) (fields_of raw))
+    read_other_type Client (type_of raw) (fields_of raw) (unwrap_or (number_in (fields_of raw)) 0)
+    none ∙ ap (λ (o : Option ℕ). Other (message_by (unwrap_or o 0) (type_of raw) (fields_of raw))
     (is_administrative (type_of raw))) numbered
 
 module _ (e : Entry) where
@@ -213,9 +190,6 @@ module _ (e : Entry) where
 
 -- ---- a value behind the header
 
-is_equal : (a b : ℕ) → (a == b) ≡ true → a ≡ b
-is_equal a b is = eqb-true a b is
-
 pub behind_value : (tag : ℕ) → is_one_of header_tags tag ≡ false → (fields : List Field)
     → value_at tag (behind_header fields) ≡ value_at tag fields
 behind_value tag apart [] = refl
@@ -230,7 +204,7 @@ behind_value tag apart (f ∷ fields) =
         fields)
     by true true in_it same rest =
         let wrong : true ≡ false = sym in_it
-        ∙ ap (λ (t : ℕ). is_one_of header_tags t) (is_equal f.0 tag same) ∙ apart in
+        ∙ ap (λ (t : ℕ). is_one_of header_tags t) (eqb-true f.0 tag same) ∙ apart in
         absurd (cc wrong)
     by true false in_it same rest = rest
     by false true in_it same rest =
@@ -244,9 +218,8 @@ behind_value tag apart (f ∷ fields) =
 
 one_byte : (x y : Bool) → is_said (if x || y then Ok (record { yes = x }) else Err Form)
     ≡ (x && true)
-one_byte true y = refl
 one_byte false true = refl
-one_byte false false = refl
+one_byte x y = refl
 
 and_false : (a : Bool) → (a && false) ≡ false
 and_false true = refl
@@ -263,8 +236,7 @@ flag_same (a ∷ b ∷ v) =
     ∙ ap (λ (t : Bool). is_said (if t && (a == 89 || a == 78)
     then Ok (record { yes = a == 89 }) else Err Form)) long ∙ sym (and_false (a == 89))
 
-resend_same : (value : Option (List ℕ))
-    → is_yes value ≡ unwrap_or (option_map flag_of value) false
+resend_same : (value : Option (List ℕ)) → is_yes value ≡ unwrap_or (option_map flag_of value) false
 resend_same None = refl
 resend_same (Some v) = flag_same v
 
@@ -302,8 +274,7 @@ module _ (says : HeadersSayNothing) (side : Side) (number : ℕ) (raw : List ℕ
   raw_is_body none =
       let resend = resend_same (value_at 97 (fields_of raw)) in
       let own : m.resend ≡ resend_of (fields_of raw) =
-      resend_is side (fields_of raw) (reading_of raw).fault (message_of side raw) m reads none
-      (shape (first_value (fields_of raw)) (fields_of raw) (reading_of raw).fault side) in
+      resend_is side raw m reads none in
       let named = behind_value 45 refl (fields_of raw) in
       raw_is ∙ (λ i. heard_with (resend i) (named i) (record m { resend = resend i }))
       ∙ ap (λ (b : Bool). heard_with (resend_of (fields_of raw)) (value_at 45 (fields_of raw))

@@ -1,10 +1,13 @@
 -- A peer's own conversation is whole beside a journal.
 use Rattle.std.proofs.Common.{◌≡◌, ◌≤◌, ◌<◌, ◌⊎◌, ℕ, zero, suc, ◌+◌, ◌-◌, Bool, true, false, List}
-use Rattle.std.proofs.Common.{[], ◌∷◌, ◌++◌, length, map, take, refl, sym, ◌∙◌, ap, subst, arith}
+use Rattle.std.proofs.Common.{[], ◌∷◌, ◌++◌, length, map, refl, sym, ◌∙◌, ap, subst, arith}
 use Rattle.std.proofs.Common.{Option, Some, None, inl, inr, if◌then◌else◌}
 use Rattle.std.specs.Prelude.{not, cond, filter, slice_get, IsTrue, IsSomeAnd, is_some}
 use Rattle.std.specs.List.{AllByRecursion, cons_option, flat_map}
 use Rattle.std.specs.Option.{option_map}
+use Rattle.std.proofs.lemmas.List.{length-append, length-map, map-append, take_all}
+use Rattle.std.proofs.lemmas.Option.{slice_get-map}
+use Rattle.std.proofs.lemmas.Simd.{map-map}
 use Rattle.order_meaning.specs.declared.Side.{Side}
 use Rattle.order_meaning.specs.declared.Side.TheVariants.{Client, Venue}
 use Rattle.order_meaning.specs.declared.names.Names.{Names}
@@ -31,42 +34,15 @@ use Rattle.book_laws.proofs.New.{AllCounted, Counted, goes_by, numbered_by, out_
 use Rattle.book_laws.proofs.Outs.{placed_sent}
 use Rattle.book_laws.proofs.Peers.{Fills, IsWhole, Passes, PassesAll, Stands, Takes, heard}
 use Rattle.book_laws.proofs.Peers.{is_heard}
+use Rattle.book_laws.proofs.Sides.{far_side, own_side}
 use Rattle.book_laws.proofs.Tooks.{took_far, took_near, took_none}
 
 -- ---- lists
-
-take_all : {X : Type 0} (l : List X) (n : ℕ) → n ≡ length l → take n l ≡ l
-take_all [] n is = ap (λ k. take k []) is
-take_all (x ∷ l) n is =
-    ap (λ k. take k (x ∷ l)) is ∙ ap (λ r. x ∷ r) (take_all l (length l) refl)
 
 some_and : {A : Type 0} (o : Option A) (P : A → Type 0) → IsSomeAnd o P
     → (a : A) × (o ≡ Some a) × P a
 some_and None P is = absurd is
 some_and (Some a) P is = (a, refl, is)
-
-get_map : {X Y : Type 0} (f : X → Y) (l : List X) (k : ℕ) (x : X) → slice_get l k ≡ Some x
-    → slice_get (map f l) k ≡ Some (f x)
-get_map f [] k x is = absurd (cc is)
-get_map f (y ∷ l) zero x is = let same : y ≡ x = cc is in ap (λ z. Some (f z)) same
-get_map f (y ∷ l) (suc k) x is = get_map f l k x is
-
-map_join : {X Y : Type 0} (f : X → Y) (a b : List X) → map f (a ++ b) ≡ map f a ++ map f b
-map_join f [] b = refl
-map_join f (x ∷ a) b = ap (λ l. f x ∷ l) (map_join f a b)
-
-map_twice : {X Y Z : Type 0} (f : Y → Z) (g : X → Y) (l : List X)
-    → map f (map g l) ≡ map (λ x. f (g x)) l
-map_twice f g [] = refl
-map_twice f g (x ∷ l) = ap (λ r. f (g x) ∷ r) (map_twice f g l)
-
-length_join : {X : Type 0} (a b : List X) → length (a ++ b) ≡ length a + length b
-length_join [] b = omega arith
-length_join (x ∷ a) b = let more = length_join a b in omega (arith, more)
-
-length_map : {X Y : Type 0} (f : X → Y) (a : List X) → length (map f a) ≡ length a
-length_map f [] = refl
-length_map f (x ∷ a) = let more = length_map f a in omega (arith, more)
 
 numbered_get : (l : List Message) (n i : ℕ) (c : Message) → AreNumbered n l
     → slice_get l i ≡ Some c → c.number ≡ n + i
@@ -112,8 +88,8 @@ module _ (side : Side) where
       let here = map (placed_at e.at) (outs_to side e.outs) in
       ap (λ (l : List Heard). given side e ++ l) (given_all entries)
       ∙ ap (λ (l : List Heard). l ++ map said (all_placed side entries))
-      (sym (map_twice said (placed_at e.at) (outs_to side e.outs)))
-      ∙ sym (map_join said here (all_placed side entries))
+      (sym (map-map said (placed_at e.at) (outs_to side e.outs)))
+      ∙ sym (map-append said here (all_placed side entries))
 
   heard_placed : (ps : List Placed)
       → ((p : Placed) → In p ps → p.out.admin ≡ true → (said p).sort ≡ Plain)
@@ -145,9 +121,9 @@ module _ (side : Side) where
       let rest = counted_outs e.next entries all.1 in
       let joined : length (here ++ all_placed side entries)
       ≡ length here + length (all_placed side entries) =
-      length_join here (all_placed side entries) in
+      length-append here (all_placed side entries) in
       let mapped : length here ≡ length (outs_to side e.outs) =
-      length_map (placed_at e.at) (outs_to side e.outs) in
+      length-map (outs_to side e.outs) (placed_at e.at) in
       omega (arith, rest, out.next, joined, mapped)
 
   -- ---- what was sent
@@ -186,8 +162,7 @@ module _ (side : Side) where
       → next_in side e.next ≡ next_in side next
   stays_far next e took is apart stays = by e.took is stays
     where
-      by_side : (b : Bool) → b ≡ false → stays_at next e b
-          → next_in side e.next ≡ next_in side next
+      by_side : (b : Bool) → b ≡ false → stays_at next e b → next_in side e.next ≡ next_in side next
       by_side true apart stays = absurd (cc apart)
       by_side false apart stays = stays
 
@@ -222,7 +197,8 @@ module _ (side : Side) where
         let at : m.number - 1 ≡ before - 1 = ap (λ n. n - 1) (has ∙ moved.0) in (
           Takes (heard_from side c.0)
               (sym (ap (slice_get sent) at)
-              ∙ get_map (heard_from side) messages (m.number - 1) c.0 c.1)
+              ∙ slice_get-map (heard_from side) messages (m.number - 1)
+              ∙ ap (option_map (heard_from side)) c.1)
               (omega (arith, moved.0, moved.1, low))
               (ap (λ (x : Message). Some (heard_from side x)) one),
           omega (arith, moved.1),
@@ -240,7 +216,7 @@ module _ (side : Side) where
               (omega (arith, below, up.0, low))) in
               let at : k + 1 - 1 ≡ k = omega arith in (
                 heard_from side c.0,
-                get_map (heard_from side) messages k c.0
+                slice_get-map (heard_from side) messages k ∙ ap (option_map (heard_from side))
                     (sym (ap (slice_get messages) at) ∙ c.1),
                 plain_from c.0 c.2,
               )) refl,
@@ -274,7 +250,7 @@ module _ (side : Side) where
             (next_in took.side e.next) (numbered_by alike next e took is c.numbered)
             (keeps took.raw (ap (raw_of side) is
             ∙ ap (λ (b : Bool). if b then Some took.raw else None)
-            (ap (λ (s : Side). is_side s took.side) same ∙ own took.side)))
+            (ap (λ (s : Side). is_side s took.side) same ∙ own_side took.side)))
             (subst (λ (s : Side). 1 ≤ next_in s next) same low)
             (λ m admin reads. subst (λ (t : Taking). TakesNumber t took.number
             (next_in took.side next) (next_in took.side e.next))
@@ -295,20 +271,12 @@ module _ (side : Side) where
                   (next_in side e.next - 1) o) (sym takes) turn.0,
               turn.1,
             )
-          where
-            own : (s : Side) → is_side s s ≡ true
-            own Client = refl
-            own Venue = refl
 
         far_took : (took : Took) → e.took ≡ Some took → side ≡ other took.side → Done next e
         far_took took is same =
             stands (stays_far next e took is
-            (ap (λ (s : Side). is_side s took.side) same ∙ far took.side)
+            (ap (λ (s : Side). is_side s took.side) same ∙ far_side took.side)
             (in_stays next e c.goes)) (ap (λ (s : Side). taken s e) same ∙ took_far e took is)
-          where
-            far : (s : Side) → is_side (other s) s ≡ false
-            far Client = refl
-            far Venue = refl
 
         by : (t : Option Took) → e.took ≡ t → Done next e
         by None is = stands (stays_none next e is (in_stays next e c.goes)) (took_none e side is)
@@ -351,8 +319,7 @@ module _ (side : Side) where
       → AllCounted first_numbers entries → AreSent names side entries
       → IsJustified names entries side connections
       → TakesInOrder read_body message_of_out side entries connections
-      → Keeps side messages connections entries
-      → Filled side messages connections fronts entries
+      → Keeps side messages connections entries → Filled side messages connections fronts entries
       → IsWhole side (conversation side messages fronts) entries
   whole alike names entries connections messages fronts counted sends justified in_order keeps
       filled =
@@ -368,7 +335,7 @@ module _ (side : Side) where
       let from : next_in side first_numbers - 1 ≡ 0 = omega (arith, first_in side) in
       let to : next_in side (numbers_after first_numbers entries) - 1
       ≡ length (map (heard_from side) messages) =
-      omega (arith, filled.sent, length_map (heard_from side) messages) in
+      omega (arith, filled.sent, length-map messages (heard_from side)) in
       record {
         sent = subst (λ n. PassesAll side (map (heard_from side) messages) n entries
             (length (map (heard_from side) messages))) from
@@ -377,8 +344,9 @@ module _ (side : Side) where
         took = ap (λ (l : List Message). heard (map (heard_at side) l))
             (in_order fronts filled.came
             ∙ ap (λ (ps : List Placed). map (λ (p : Placed). message_of_out p.out)
-            (filter (λ (p : Placed). not p.out.admin) ps)) (take_all placed (taking.next - 1) all))
-            ∙ ap heard (map_twice (heard_at side) (λ (p : Placed). message_of_out p.out)
+            (filter (λ (p : Placed). not p.out.admin) ps))
+            (take_all (taking.next - 1) placed (omega (arith, all))))
+            ∙ ap heard (map-map (heard_at side) (λ (p : Placed). message_of_out p.out)
             (filter (λ (p : Placed). not p.out.admin) placed))
             ∙ heard_placed placed (λ p i admin. plain_at (message_of_out p.out)
             (sym (placed_sent side names entries sends p i).admin ∙ admin))

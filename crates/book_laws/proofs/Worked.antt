@@ -1,7 +1,6 @@
 -- What is set aside, and both books, worked through from the definitions alone, with `|` for SOH.
-use Rattle.std.proofs.Common.{List, [], ap, codes, false, map, true, ℕ, ◌++◌, ◌∷◌, ◌≡◌}
-use Rattle.std.proofs.Common.{◌<◌, ◌≤◌, ◌-◌, Some, None, arith, refl, subst, sym, length}
-use Rattle.std.proofs.Common.{if◌then◌else◌}
+use Rattle.std.proofs.Common.{List, [], ap, codes, false, map, true, ℕ, ◌++◌, ◌∷◌, ◌≡◌, ◌<◌, ◌≤◌}
+use Rattle.std.proofs.Common.{◌-◌, Some, None, arith, refl, subst, sym, length, if◌then◌else◌}
 use Rattle.std.specs.Prelude.{◌==◌, IsSomeAnd, IsTrue, slice_get}
 use Rattle.std.specs.Fmt.{digits}
 use Rattle.typed_fields.specs.Digits.{are_digits, number_of, has_pattern, zero_padded}

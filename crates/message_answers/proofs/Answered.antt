@@ -4,6 +4,7 @@ use Rattle.std.proofs.Common.{length, nat_lt, Option, Some, None, Result, Ok, Er
 use Rattle.std.proofs.Common.{subst, ◌∙◌, arith, if◌then◌else◌}
 use Rattle.std.specs.Prelude.{IfOk}
 use Rattle.std.proofs.lemmas.Bool.Decides.{nat_tests}
+use Rattle.std.proofs.lemmas.Result.{IfOk-weaker}
 use Rattle.field_groups.specs.Field.{Field, body_of}
 use Rattle.message_tables.specs.Tables.{Message}
 use Rattle.order_meaning.specs.declared.Side.{Side}
@@ -21,12 +22,10 @@ use Rattle.event_decisions.specs.Decide.{Words}
 use Rattle.message_answers.specs.declared.answer.Answer.{Answer as GivenAnswer}
 use Rattle.message_answers.specs.declared.asking.Asked.{Asked as GivenAsked}
 use Rattle.message_answers.specs.declared.asking.Known.{Known as GivenKnown}
-use Rattle.message_answers.specs.Answer.{Gives, near_if}
-use Rattle.message_answers.specs.Answer.{refused, spelled, told, in_order, answered, forwarded}
-use Rattle.message_answers.specs.Answer.{near_words, words_of, too_long}
+use Rattle.message_answers.specs.Answer.{Gives, near_if, refused, spelled, told, in_order, answered}
+use Rattle.message_answers.specs.Answer.{forwarded, near_words, words_of, too_long}
 use Rattle.message_answers.specs.Known.{named}
-use Rattle.message_answers.specs.Message.{message_of, is_refusal}
-use Rattle.message_answers.specs.Message.{refusal_in, said_by}
+use Rattle.message_answers.specs.Message.{message_of, is_refusal, refusal_in, said_by}
 use Rattle.message_answers.specs.Seen.{IsSplit, IsAnswer, IsRefused, IsTold, IsForwarded}
 use Rattle.message_answers.specs.Seen.{Sent, Long, IsSpelled, Lacks, Goes, asked_in}
 use Rattle.message_answers.specs.Seen.{known_in, words_in, message_in, refusal_says, told_words}
@@ -58,24 +57,23 @@ module _ (a : GivenAsked) (is_type : a.msg_type.now ≡ type_of a.body.now) wher
   passes : (most n : ℕ) → most < n → nat_lt most n ≡ true
   passes most n long = grind (arith, nat_tests)
 
+  words_by : (m : Message) (written : List Field) (long : Bool)
+      → nat_lt MAX_CONTENT (length (body_of written)) ≡ long
+      → words_of (asked_in a) m written ≡ (if long then near_words (asked_in a)
+      (refusal_of a.side a.number (type_of a.body.now) (faults.NoCounterpart too_long))
+      else forwarded (asked_in a) m written)
+  words_by m written long is = λ i. if is i then near_words (asked_in a)
+      (refusal_of a.side a.number (type_of a.body.now) (faults.NoCounterpart too_long))
+      else forwarded (asked_in a) m written
+
   sent_words : (m : Message) (written : List Field) (item : Option ChainItem)
-      (answer : GivenAnswer)
-      → IsForwarded a (m.letter ∷ []) m.resend (body_of written) item answer
+      (answer : GivenAnswer) → IsForwarded a (m.letter ∷ []) m.resend (body_of written) item answer
       → words_in answer ≡ words_of (asked_in a) m written
   sent_words m written item answer (Sent is) =
-      is.words
-      ∙ ap (λ (b : Bool). if b
-      then near_words (asked_in a)
-      (refusal_of a.side a.number (type_of a.body.now) (faults.NoCounterpart too_long))
-      else forwarded (asked_in a) m written)
-      (sym (fits_not MAX_CONTENT (length (body_of written)) is.short))
+      is.words ∙ sym (words_by m written false (fits_not MAX_CONTENT _ is.short))
   sent_words m written item answer (Long long is) =
       near_of (faults.NoCounterpart too_long) answer is
-      ∙ ap (λ (b : Bool). if b
-      then near_words (asked_in a)
-      (refusal_of a.side a.number (type_of a.body.now) (faults.NoCounterpart too_long))
-      else forwarded (asked_in a) m written)
-      (sym (passes MAX_CONTENT (length (body_of written)) long))
+      ∙ sym (words_by m written true (passes MAX_CONTENT _ long))
 
   -- a message that lacks a counterpart, or goes on
   pub gives_spelled : (side : Side) (original : Option (List ℕ)) (m : Message) (lack : Option ℕ)
@@ -126,21 +124,14 @@ module _ (k : GivenKnown) (a : GivenAsked) (split : IsSplit a) where
   is_told : (fault : Fault) (answer : GivenAnswer) (x : Result Message Fault)
       → IsRefused a fault answer → Tells fault x → x ≡ Err fault
   is_told faults.NoMemory answer x is tells = absurd (cc is.is)
-  is_told faults.NotSupported answer x is tells = tells
-  is_told (faults.Session tag reason) answer x is tells = tells
-  is_told (faults.NoCounterpart tag) answer x is tells = tells
-
-  answers_fault : (fault : Fault) (answer : GivenAnswer) → Tells fault (message_in a)
-      → IsRefused a fault answer → IsAnswer k a answer
-  answers_fault fault answer tells is =
-      answers (Err fault) answer (is_told fault answer (message_in a) is tells)
-      (gives_refused a split.msg_type fault answer is)
+  is_told fault answer x is tells = tells
 
   -- THE FIRST FAULT is answered by its refusal, where there is memory for it.
   pub faulty : {E : Type 0} (fault : Fault) (result : Result GivenAnswer E)
       → Tells fault (message_in a) → IfOk result (IsRefused a fault) → IfOk result (IsAnswer k a)
-  faulty fault (Ok answer) tells is = answers_fault fault answer tells is
-  faulty fault (Err error) tells is = tt
+  faulty fault result tells = IfOk-weaker result (IsRefused a fault) (IsAnswer k a)
+      (λ answer is. answers (Err fault) answer (is_told fault answer (message_in a) is tells)
+      (gives_refused a split.msg_type fault answer is))
 
   -- a message that is no refusal
   pub answers_message : (m : Message) (answer : GivenAnswer) → message_in a ≡ Ok m
@@ -168,19 +159,16 @@ module _ (k : GivenKnown) (a : GivenAsked) (split : IsSplit a) where
       (told (asked_in a) (refusal_says business r) (named (known_in k) a.side r)) w)
       (sym is.words) (gives_told a business r (named (known_in k) a.side r) again))
 
-  answers_refusal : (business : Bool) (r : Refusal) (answer : GivenAnswer)
-      → message_in a ≡ Ok (refusal_says business r) → refusal_in (refusal_says business r) ≡ r
-      → IsTold k a business r answer → IsAnswer k a answer
-  answers_refusal true r answer is again told =
-      answers (Ok (business_reject_says r)) answer is (gives_refusal true r answer again told)
-  answers_refusal false r answer is again told =
-      answers (Ok (session_reject_says r)) answer is (gives_refusal false r answer again told)
-
   pub refusal_told : {E : Type 0} (business : Bool) (r : Refusal) (result : Result GivenAnswer E)
       → message_in a ≡ Ok (refusal_says business r) → refusal_in (refusal_says business r) ≡ r
       → IfOk result (IsTold k a business r) → IfOk result (IsAnswer k a)
-  refusal_told business r (Ok answer) is again told =
-      answers_refusal business r answer is again told
-  refusal_told business r (Err error) is again told = tt
-
--- ---- what is known
+  refusal_told business r result is again =
+      IfOk-weaker result (IsTold k a business r) (IsAnswer k a) (by business is again)
+    where
+      by : (business : Bool) → message_in a ≡ Ok (refusal_says business r)
+          → refusal_in (refusal_says business r) ≡ r → (answer : GivenAnswer)
+          → IsTold k a business r answer → IsAnswer k a answer
+      by true is again answer told =
+          answers (Ok (business_reject_says r)) answer is (gives_refusal true r answer again told)
+      by false is again answer told =
+          answers (Ok (session_reject_says r)) answer is (gives_refusal false r answer again told)

@@ -1,21 +1,17 @@
 -- The numbers of the fault of a message have 32 bits: a tag is that of a field or of a row, and the
 -- reasons are few.
-use Rattle.std.proofs.Common.{◌≡◌, ◌<◌, ◌≤◌, ◌^◌, ◌==◌, ◌&&◌, ◌||◌, ℕ, Bool, true, false, not}
-use Rattle.std.proofs.Common.{List, []}
-use Rattle.std.proofs.Common.{◌∷◌, map, Option, Some, None, Ok, Err, IfSome, refl}
-use Rattle.std.proofs.Common.{sym}
-use Rattle.std.proofs.Common.{subst, arith, lit<, if◌then◌else◌, codes}
+use Rattle.std.proofs.Common.{◌≡◌, ◌<◌, ◌^◌, ◌==◌, ◌&&◌, ◌||◌, ℕ, Bool, true, false, not, List, []}
+use Rattle.std.proofs.Common.{◌∷◌, map, Option, Some, None, Ok, Err, IfSome, refl, sym, subst}
+use Rattle.std.proofs.Common.{arith, lit<, if◌then◌else◌, codes}
 use Rattle.std.specs.Prelude.{nat_le}
 use Rattle.std.specs.List.{AllByRecursion, flat_map, list_all, list_any}
 use Rattle.std.specs.Str.{bytes_eq}
-use Rattle.std.proofs.lemmas.Bool.{eqb-true}
-use Rattle.std.proofs.lemmas.Bool.Decides.{nat_tests}
-use Rattle.typed_fields.specs.declared.fault.FieldFault.TheVariants.{Empty, Form, Range}
+use Rattle.std.proofs.lemmas.Bool.{eqb-true, leb-true}
+use Rattle.typed_fields.specs.declared.fault.FieldFault.TheVariants.{Empty}
 use Rattle.typed_fields.specs.declared.month_year.MonthYear.{MonthYear as MonthValue}
 use Rattle.typed_fields.specs.Day.{is_date}
 use Rattle.field_groups.specs.declared.fault.SplitFault.{SplitFault}
-use Rattle.field_groups.specs.declared.fault.SplitFault.TheVariants.{NoTag, BadTag, NoEnd}
-use Rattle.field_groups.specs.declared.fault.SplitFault.TheVariants.{DataLength, TooMany}
+use Rattle.field_groups.specs.declared.fault.SplitFault.TheVariants.{DataLength}
 use Rattle.field_groups.specs.Data.{data_fields, is_data_pair, is_data_tag}
 use Rattle.field_groups.specs.Field.{Field, AreFields, is_data}
 use Rattle.field_groups.specs.Fields.{Stops, front_tag}
@@ -24,30 +20,25 @@ use Rattle.message_tables.specs.declared.table_fault.TableFault.{TableFault}
 use Rattle.message_tables.specs.declared.table_fault.TableFault.TheVariants.{Reason}
 use Rattle.message_tables.specs.declared.table_fault.Mark.{Mark}
 use Rattle.message_tables.specs.declared.table_fault.Mark.TheVariants as marks
-use Rattle.message_tables.specs.Tables.{GroupTags, Item, Lenient, Lines, Need, One}
-use Rattle.message_tables.specs.Tables.{Optional}
-use Rattle.message_tables.specs.Tables.{Outside, Party, Required, Fixed, When, Row, Said, Spells}
-use Rattle.message_tables.specs.Tables.{Table}
-use Rattle.message_tables.specs.Tables.{Verdict, Wrong, all_rows, first_of, has_tag}
-use Rattle.message_tables.specs.Tables.{is_inside, is_listed, is_needed, is_one_of, lines_in}
-use Rattle.message_tables.specs.Tables.{or_else, row_at, tags_in, value_at}
+use Rattle.message_tables.specs.Tables.{GroupTags, Item, Lines, Need, One, Party, Required}
+use Rattle.message_tables.specs.Tables.{Row, Said, Spells, Table, Verdict, Wrong, all_rows}
+use Rattle.message_tables.specs.Tables.{first_of, has_tag, is_inside, is_listed, is_needed}
+use Rattle.message_tables.specs.Tables.{is_one_of, lines_in, or_else, row_at, tags_in, value_at}
 use Rattle.message_tables.specs.FirstFault.{Marked, Placed, allowed, beyond, by_row, fault_if}
 use Rattle.message_tables.specs.FirstFault.{first_fault, group_tags_in, group_tags_of, in_groups}
 use Rattle.message_tables.specs.FirstFault.{is_count, is_opened, is_passed, line_before}
-use Rattle.message_tables.specs.FirstFault.{lines_begun}
-use Rattle.message_tables.specs.FirstFault.{mark_of, marked, message_in, message_of, most_lines}
-use Rattle.message_tables.specs.FirstFault.{misplaced, misplaced_member, missing, missing_of}
-use Rattle.message_tables.specs.FirstFault.{once_in, placed_from, twice, unless, without_row, wrong}
-use Rattle.message_tables.specs.FirstFault.{wrong_version}
+use Rattle.message_tables.specs.FirstFault.{lines_begun, mark_of, marked, message_in, message_of}
+use Rattle.message_tables.specs.FirstFault.{most_lines, misplaced, misplaced_member, missing}
+use Rattle.message_tables.specs.FirstFault.{missing_of, once_in, placed_from, twice, unless}
+use Rattle.message_tables.specs.FirstFault.{without_row, wrong, wrong_version}
 use Rattle.order_meaning.specs.declared.fault.Fault.{Fault}
 use Rattle.value_kinds.specs.ValueKind.{Code, DayOfMonth, MonthYear, OneByte, Spelling, is_code}
 use Rattle.value_kinds.specs.ValueKind.{number_of_two, spelling}
 use Rattle.first_faults.specs.Faults.{message_by, of_split, of_table, told}
 use Rattle.row_values.specs.Kinds.{Byte, DayOf, Kind, MonthBeside, TimeBeside, Value, Version}
-use Rattle.row_values.specs.Kinds.{counted}
-use Rattle.row_values.specs.Kinds.{date_at, filled, if_spelled, in_month, is_at_close, judge}
-use Rattle.row_values.specs.Kinds.{month_at, month_beside, verdict_of}
-use Rattle.sound_laws.proofs.Each.{both}
+use Rattle.row_values.specs.Kinds.{counted, date_at, filled, if_spelled, in_month, is_at_close}
+use Rattle.row_values.specs.Kinds.{judge, month_at, month_beside, verdict_of}
+use Rattle.sound_laws.proofs.Each.{all_true, both, each_by}
 use Rattle.sound_laws.proofs.PlainFields.{has_good_tags, is_good_tag}
 use Rattle.reject_rules.specs.Laws.{HasWords}
 use Rattle.event_decisions.specs.Body.{reading_of}
@@ -63,38 +54,33 @@ IsWordVerdict (Wrong reason) = IsWordNumber reason
 IsWordVerdict verdict = Unit {0}
 
 verdict_word : (s : Spelling) → IsWordVerdict (verdict_of s)
-verdict_word (Ok (Some text)) = tt
 verdict_word (Ok None) = tt
+verdict_word (Ok text) = tt
 verdict_word (Err Empty) = lit< tt
-verdict_word (Err Form) = lit< tt
-verdict_word (Err Range) = lit< tt
+verdict_word (Err fault) = lit< tt
 
 counted_word : (counts : Bool) (v : Verdict) → IsWordVerdict v → IsWordVerdict (counted counts v)
 counted_word true v word = word
-counted_word false (Spells text) word = tt
-counted_word false Outside word = tt
 counted_word false (Wrong reason) word = word
+counted_word false v word = tt
 
 month_word : (month : Option MonthValue) (v : Verdict) → IsWordVerdict v
     → IsWordVerdict (in_month month v)
-month_word None v word = word
-month_word (Some month) Outside word = word
-month_word (Some month) (Wrong reason) word = word
 month_word (Some month) (Spells day) word =
     by (is_date month.year month.month (number_of_two day))
   where
     by : (b : Bool) → IsWordVerdict (if b then Spells day else Wrong 5)
     by true = tt
     by false = lit< tt
+month_word month v word = word
 
 filled_word : (bytes : List ℕ) (v : Verdict) → IsWordVerdict v → IsWordVerdict (filled bytes v)
 filled_word [] v word = lit< tt
 filled_word (byte ∷ bytes) v word = word
 
 spelled_word : (s : Spelling) → IsWordVerdict (if_spelled s)
-spelled_word (Ok (Some text)) = tt
 spelled_word (Ok None) = tt
-spelled_word (Err fault) = tt
+spelled_word s = tt
 
 beside_word : (date : Said) (bytes : List ℕ) → IsWordVerdict (month_beside date bytes)
 beside_word (Some date) bytes = tt
@@ -130,20 +116,13 @@ IsWordMark (marks.Wrong reason) = IsWordNumber reason
 IsWordMark mark = Unit {0}
 
 mark_word : (v : Verdict) → IsWordVerdict v → IsWordMark (mark_of v)
-mark_word (Spells text) word = tt
-mark_word Outside word = tt
 mark_word (Wrong reason) word = word
+mark_word v word = tt
 
 allowed_word : (need : Need) (mark : Mark) → IsWordMark mark → IsWordMark (allowed need mark)
 allowed_word Required mark word = word
-allowed_word Optional mark word = word
-allowed_word (When condition) mark word = word
-allowed_word Lenient marks.Good word = tt
-allowed_word Lenient marks.Outside word = tt
-allowed_word Lenient (marks.Wrong reason) word = word
-allowed_word (Fixed text) marks.Good word = tt
-allowed_word (Fixed text) marks.Outside word = tt
-allowed_word (Fixed text) (marks.Wrong reason) word = word
+allowed_word need (marks.Wrong reason) word = word
+allowed_word need mark word = tt
 
 bare_word : (passed : Bool) (bytes : List ℕ) → IsWordMark (without_row passed bytes)
 bare_word passed [] = lit< tt
@@ -210,8 +189,7 @@ placed_words before (f ∷ fs) all = (all.0, placed_words (f ∷ before) fs all.
 abbrev IsWordMarked : Marked → Type 0
 IsWordMarked m = IsWordNumber m.0 × IsWordMark m.1
 
-marked_words : (table : Table Kind) (all others : List Field)
-    → AllByRecursion HasWordTag others
+marked_words : (table : Table Kind) (all others : List Field) → AllByRecursion HasWordTag others
     → AllByRecursion IsWordMarked (map (marked judge table all) others)
 marked_words table all [] words = tt
 marked_words table all (f ∷ fs) words = (
@@ -224,19 +202,16 @@ twice_word once p word =
     if_word (is_one_of once p.field.0 && has_tag p.field.0 p.before) p.field.0 13 word (lit< tt)
 
 version_word : (m : Marked) → IsWordMarked m → IsWordFault (wrong_version m)
-version_word (tag, marks.Good) word = tt
-version_word (tag, marks.Outside) word = tt
 version_word (tag, marks.Wrong reason) word = if_word (reason == 18) tag reason word.0 word.1
+version_word (tag, mark) word = tt
 
 wrong_word : (m : Marked) → IsWordMarked m → IsWordFault (wrong m)
-wrong_word (tag, marks.Good) word = tt
-wrong_word (tag, marks.Outside) word = tt
 wrong_word (tag, marks.Wrong reason) word = (word.0, word.1)
+wrong_word (tag, mark) word = tt
 
 beyond_word : (m : Marked) → IsWordMarked m → IsWordFault (beyond m)
-beyond_word (tag, marks.Good) word = tt
 beyond_word (tag, marks.Outside) word = word.0
-beyond_word (tag, marks.Wrong reason) word = tt
+beyond_word (tag, mark) word = tt
 
 -- ---- groups
 
@@ -271,11 +246,8 @@ misplaced_word p word group count =
         group.count p.field.0 count word
     by false false = tt
 
-at_most : (n most : ℕ) → nat_le n most ≡ true → n ≤ most
-at_most n most test = grind (arith, nat_tests)
-
 low_word : (tag : ℕ) → nat_le tag 999_999_999 ≡ true → IsWordNumber tag
-low_word tag test = let most = at_most tag 999_999_999 test in omega (arith, most)
+low_word tag test = let most = leb-true tag 999_999_999 test in omega (arith, most)
 
 good_word : (tag : ℕ) → is_good_tag tag ≡ true → IsWordNumber tag
 good_word tag good =
@@ -307,20 +279,12 @@ missing_word fields row word =
 
 rows_words : (rows : List (Row Kind)) → list_all (λ row. is_good_tag row.tag) rows ≡ true
     → AllByRecursion HasWordRow rows
-rows_words [] good = tt
-rows_words (row ∷ rows) good =
-    let g = both (is_good_tag row.tag) (list_all (λ r. is_good_tag r.tag) rows) good in
-    (good_word row.tag g.0, rows_words rows g.1)
+rows_words rows good =
+    each_by (λ row. is_good_tag row.tag ≡ true) HasWordRow (λ row. good_word row.tag) rows
+    (all_true (λ row. is_good_tag row.tag) rows good)
 
 abbrev HasGoodTags : Item Kind → Type 0
 HasGoodTags item = has_good_tags item ≡ true
-
-good_items : (items : List (Item Kind)) → list_all has_good_tags items ≡ true
-    → AllByRecursion HasGoodTags items
-good_items [] good = tt
-good_items (item ∷ items) good =
-    let g = both (has_good_tags item) (list_all has_good_tags items) good in
-    (g.0, good_items items g.1)
 
 lacking_word : (fields : List Field) (item : Item Kind) → HasGoodTags item
     → IsWordFault (missing_of fields item)
@@ -350,7 +314,7 @@ module _ (table : Table Kind) (good : list_all has_good_tags table.items ≡ tru
       (group_tags_in table) (counts_words table.items good)) (placed_from [] fields) there)
       (or_word _ _ (first_word wrong IsWordMarked wrong_word _ are)
       (or_word _ _ (first_word (missing_of fields) HasGoodTags (lacking_word fields) table.items
-      (good_items table.items good))
+      (all_true has_good_tags table.items good))
       (first_word beyond IsWordMarked beyond_word _ are)))))
 
   told_word : (fields : List Field) (fault : Fault) → AllByRecursion HasWordTag fields
@@ -392,8 +356,7 @@ pair_word (pair ∷ pairs) len tag all is =
         → (list_any (λ pair. pair.0 == len && pair.1 == tag) pairs ≡ true → IsWordNumber tag)
         → IsWordNumber tag
     by true true e few is later = subst IsWordNumber (eqb-true pair.1 tag e) (low_word pair.1 few)
-    by true false e few is later = later is
-    by false b e few is later = later is
+    by a b e few is later = later is
 
 data_word : (before : Option Field) (tag : ℕ) → is_data before tag ≡ true → IsWordNumber tag
 unfolding is_data_pair
@@ -403,13 +366,10 @@ data_word (Some before) tag is = pair_word data_fields before.0 tag refl is
 stop_word : (count place : ℕ) (before : Option Field) (left : List ℕ) (split : Option SplitFault)
     → Stops count place before left split → IfSome split (λ s. HasWords (of_split s))
 stop_word count place before left None stops = tt
-stop_word count place before left (Some (NoTag at)) stops = (tt, lit< tt)
-stop_word count place before left (Some (BadTag at)) stops = (tt, lit< tt)
-stop_word count place before left (Some (NoEnd at)) stops = (tt, lit< tt)
-stop_word count place before left (Some TooMany) stops = (tt, lit< tt)
 stop_word count place before left (Some (DataLength tag)) stops =
     let front = data_word before (front_tag left) stops.2.3 in
     (subst IsWordNumber (sym stops.2.0) front, lit< tt)
+stop_word count place before left (Some fault) stops = (tt, lit< tt)
 
 -- THE FAULT OF A BODY
 pub split_words : (body : List ℕ) → IfSome (reading_of body).fault (λ s. HasWords (of_split s))

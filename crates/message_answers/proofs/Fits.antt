@@ -1,6 +1,7 @@
 -- What is said of a message that does not go on fits an entry.
-use Rattle.std.proofs.Common.{Result, Ok, Err, arith}
+use Rattle.std.proofs.Common.{Result, arith}
 use Rattle.std.specs.Prelude.{IfOk}
+use Rattle.std.proofs.lemmas.Result.{IfOk-weaker}
 use Rattle.session_core.specs.declared.said.Said.{Said}
 use Rattle.reject_rules.specs.Laws.{IsShort}
 use Rattle.message_answers.specs.Seen.{IsFit}
@@ -15,5 +16,5 @@ short_fits said short = record {
 -- where there is memory
 pub fits_by : {E : Type 0} (P : Said → Type 0) (result : Result Said E)
     → ((said : Said) → P said → IsShort said) → IfOk result P → IfOk result IsFit
-fits_by P (Ok said) short is = short_fits said (short said is)
-fits_by P (Err error) short is = tt
+fits_by P result short =
+    IfOk-weaker result P IsFit (λ said is. short_fits said (short said is))

@@ -1,9 +1,9 @@
 -- The request that joins by an answer, as an entry forwards it.
-use Rattle.std.proofs.Common.{◌≡◌, ℕ, Bool, true, false, ◌==◌, ◌&&◌, List, [], ◌∷◌}
-use Rattle.std.proofs.Common.{codes, Option, Some, None, Result, Ok, Err, refl, sym, ap}
-use Rattle.std.proofs.Common.{subst, ◌∙◌, if◌then◌else◌}
+use Rattle.std.proofs.Common.{◌≡◌, ℕ, Bool, true, false, ◌==◌, ◌&&◌, List, [], ◌∷◌, codes, Option}
+use Rattle.std.proofs.Common.{Some, None, Result, Ok, Err, refl, sym, ap, subst, ◌∙◌, if◌then◌else◌}
 use Rattle.std.specs.Prelude.{IfOk}
 use Rattle.std.specs.List.{list_any}
+use Rattle.std.proofs.lemmas.Result.{IfOk-weaker}
 use Rattle.field_groups.specs.Field.{body_of}
 use Rattle.message_tables.specs.Tables.{Message, ◌>>=◌, first_of, is_one_of, or_else, text_in}
 use Rattle.order_meaning.specs.declared.Side.{Side}
@@ -30,9 +30,8 @@ use Rattle.message_answers.specs.Chains.{if_new, item_said, joining, joining_let
 use Rattle.message_answers.specs.Known.{named}
 use Rattle.message_answers.specs.Message.{message_of}
 use Rattle.message_answers.specs.Seen.{IsSplit, IsRefused, IsTold, IsForwarded, Sent, Long, Joins}
-use Rattle.message_answers.specs.Seen.{IsSpelled, Lacks, Goes, asked_in, item_of, joined}
-use Rattle.message_answers.specs.Seen.{known_in, words_in}
-use Rattle.message_answers.specs.Seen.{told_words}
+use Rattle.message_answers.specs.Seen.{IsSpelled, Lacks, Goes, asked_in, item_of, joined, known_in}
+use Rattle.message_answers.specs.Seen.{words_in, told_words}
 use Rattle.message_answers.proofs.Forwards.{request_said}
 use Rattle.message_answers.proofs.Letters.{among, joining_by, source_by}
 use Rattle.message_answers.proofs.Typed.{typed}
@@ -170,8 +169,8 @@ module _ (k : GivenKnown) (a : GivenAsked) where
 
   pub refused_joins : {E : Type 0} (fault : Fault) (result : Result GivenAnswer E)
       → IfOk result (IsRefused a fault) → IfOk result (Joins k a)
-  refused_joins fault (Ok answer) is = joins_refused fault answer is
-  refused_joins fault (Err error) is = tt
+  refused_joins fault result =
+      IfOk-weaker result (IsRefused a fault) (Joins k a) (joins_refused fault)
 
   pub near_joins : {E : Type 0} (said : Said) (result : Result GivenAnswer E)
       → IfOk result (λ answer. words_in answer ≡ to_near (asked_in a) said)
@@ -181,8 +180,8 @@ module _ (k : GivenKnown) (a : GivenAsked) where
 
   pub told_joins : {E : Type 0} (business : Bool) (r : Refusal) (result : Result GivenAnswer E)
       → IfOk result (IsTold k a business r) → IfOk result (Joins k a)
-  told_joins business r (Ok answer) is = joins_told business r answer is
-  told_joins business r (Err error) is = tt
+  told_joins business r result =
+      IfOk-weaker result (IsTold k a business r) (Joins k a) (joins_told business r)
 
 -- ---- a request
 
@@ -216,14 +215,13 @@ module _ (k : GivenKnown) (a : GivenAsked) (split : IsSplit a) (of_client : a.si
   item_joined join =
       let item : ChainItem = item_of a.number m in
       ap (λ (x : ChainItem). if_new k.chains.now (Some x))
-      (sym (request_said a.body.now m is (sym split.msg_type ∙ typed_by) join a.number))
+      (sym (request_said a.body.now m is join a.number))
       ∙ ap (λ (b : Bool). if b then None else Some item)
       (is_new (is_one_of joining m.letter) (has_id k.chains.now (text_in m.cells 11)) new join)
       ∙ ap (λ (b : Bool). if b then Some item else None) (sym join)
 
   joins_forwarded : (resend : Bool) (content : List ℕ) (answer : GivenAnswer)
-      → IsForwarded a (m.letter ∷ []) resend content (joined a.number m) answer
-      → Joins k a answer
+      → IsForwarded a (m.letter ∷ []) resend content (joined a.number m) answer → Joins k a answer
   joins_forwarded resend content answer (Long long refused) = joins_refused k a _ answer refused
   joins_forwarded resend content answer (Sent sent) = by (is_one_of joining m.letter) refl
     where

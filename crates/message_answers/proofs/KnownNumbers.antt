@@ -1,14 +1,13 @@
 -- The numbers, the letters and the original orders that are known of a journal.
-use Rattle.std.proofs.Common.{◌≡◌, ◌≤◌, ℕ, ◌==◌, ◌&&◌, ◌||◌, not, Bool, true, false, List, [], ◌∷◌}
-use Rattle.std.proofs.Common.{◌++◌, codes, Option, Some, None, IfSome, refl, sym}
-use Rattle.std.proofs.Common.{subst, option_map, option_and_then, if◌then◌else◌}
+use Rattle.std.proofs.Common.{◌≡◌, ◌≤◌, ◌⊎◌, ℕ, ◌==◌, ◌&&◌, not, Bool, true, false, List, []}
+use Rattle.std.proofs.Common.{◌∷◌, ◌++◌, Option, Some, None, IfSome, refl, sym, subst}
+use Rattle.std.proofs.Common.{inl, inr, option_map, option_and_then, if◌then◌else◌}
 use Rattle.std.specs.Prelude.{find}
 use Rattle.std.specs.List.{AllByRecursion, list_all, list_any}
 use Rattle.std.specs.Option.{option_to_list}
-use Rattle.std.proofs.lemmas.Bool.{eqb-true}
 use Rattle.field_groups.specs.Data.{is_data_tag}
 use Rattle.field_groups.specs.Field.{Field, is_soh}
-use Rattle.message_tables.specs.Tables.{◌>>=◌, first_of}
+use Rattle.message_tables.specs.Tables.{Message, ◌>>=◌, first_of, text_in}
 use Rattle.order_meaning.specs.declared.Side.{Side}
 use Rattle.order_meaning.specs.declared.Side.TheVariants.{Client, Venue}
 use Rattle.order_meaning.specs.declared.refusal.Refusal.{Refusal}
@@ -27,13 +26,13 @@ use Rattle.sound_laws.proofs.Each.{each_joined, not_true}
 use Rattle.sound_laws.proofs.PlainFields.{clear_fields}
 use Rattle.event_decisions.specs.Body.{reading_of}
 use Rattle.event_decisions.proofs.Bodies.{bodies_are_read}
+use Rattle.message_answers.specs.Answer.{original_of}
 use Rattle.message_answers.specs.Chains.{chains_after, chains_of, if_new, item_in, item_said}
-use Rattle.message_answers.specs.Chains.{joining}
-use Rattle.message_answers.specs.Chains.{joining_letter, new_item, original_said}
+use Rattle.message_answers.specs.Chains.{joining, joining_letter, new_item, original_said}
 use Rattle.message_answers.specs.Known.{known_of, named, named_by_id}
 use Rattle.message_answers.specs.Laws.{AreNumbered, IsNumbered}
 use Rattle.message_answers.proofs.Forwards.{first_joins}
-use Rattle.message_answers.proofs.Letters.{among}
+use Rattle.message_answers.proofs.Letters.{among, letter_to}
 use Rattle.message_answers.proofs.SaidTexts.{IsShortId, id_at}
 
 -- a number that a message may have, and a letter that does not end a field
@@ -45,29 +44,16 @@ pub record IsGoodSource (at : ℕ × ℕ) : Type 0 where
 
 mid_of : (a b c : Bool) → (a && b && c) ≡ true → b ≡ true
 mid_of true true c h = refl
-mid_of true false c h = absurd cc
-mid_of false b c h = absurd cc
-
-clear_letter : (letters : List ℕ) (letter : ℕ) → list_all (λ l. not (is_soh l)) letters ≡ true
-    → list_any (λ l. letter == l) letters ≡ true → is_soh letter ≡ false
-clear_letter [] letter all is = absurd cc
-clear_letter (l ∷ ls) letter all is =
-    by (letter == l) (is_soh l) refl refl (λ rest later. clear_letter ls letter rest later) all is
-  where
-    by : (same soh : Bool) → (letter == l) ≡ same → is_soh l ≡ soh
-        → (list_all (λ l. not (is_soh l)) ls ≡ true
-        → list_any (λ l. letter == l) ls ≡ true → is_soh letter ≡ false)
-        → (not soh && list_all (λ l. not (is_soh l)) ls) ≡ true
-        → (same || list_any (λ l. letter == l) ls) ≡ true → is_soh letter ≡ false
-    by same true e s later all is = absurd cc
-    by true false e s later all is =
-        subst (λ (x : ℕ). is_soh x ≡ false) (sym (eqb-true letter l e)) s
-    by false false e s later all is = later all is
+mid_of a b c h = absurd cc
 
 letters_clear : (side : Side) (letter : ℕ) → list_any (λ b. letter == b) (letters_to side) ≡ true
     → is_soh letter ≡ false
-letters_clear Client letter is = clear_letter (codes "89") letter refl is
-letters_clear Venue letter is = clear_letter (codes "DFGH") letter refl is
+letters_clear side letter is =
+    not_true (is_soh letter) (letter_to side (λ l. not (is_soh l)) letter (all side) is)
+  where
+    all : (side : Side) → list_all (λ l. not (is_soh l)) (letters_to side) ≡ true
+    all Client = refl
+    all Venue = refl
 
 out_good : (entry : Entry) (out : Out) → IsNumbered entry
     → IfSome (source_in (record { entry = entry; out = out })) IsGoodSource
@@ -98,19 +84,19 @@ out_good entry out are = by entry.took (letter_of out.msg_type) are
         by_source took letter (is_source took out.side letter) refl few
 
 -- the out of an entry, where one was found; the first that was found; and what it translates
-abbrev given_of : Entry → Option Out → Option Given
+abbrev pub given_of : Entry → Option Out → Option Given
 given_of entry o = elim o [
   | None ↦ None
   | Some out ↦ Some (record { entry = entry; out = out })
 ]
 
-abbrev given_next : Option Given → Option Given → Option Given
+abbrev pub given_next : Option Given → Option Given → Option Given
 given_next rest one = elim one [
   | None ↦ rest
   | Some x ↦ Some x
 ]
 
-abbrev source_at : Option Given → Option (ℕ × ℕ)
+abbrev pub source_at : Option Given → Option (ℕ × ℕ)
 source_at one = elim one [
   | None ↦ None
   | Some x ↦ source_in x
@@ -142,8 +128,7 @@ original_good letter raw = by (letter == 68)
     fields : List Field
     fields = (reading_of raw).fields
 
-    by : (order : Bool)
-        → IfSome (if order then None else said fields 41 (Value Id)) IsShortId
+    by : (order : Bool) → IfSome (if order then None else said fields 41 (Value Id)) IsShortId
     by true = tt
     by false = id_at fields (clear_fields judge None fields (bodies_are_read raw).good) 41 refl
 
@@ -175,8 +160,7 @@ new_good : (items : List ChainItem) (item : Option ChainItem) → IfSome item Is
 new_good items None good = tt
 new_good items (Some item) good = by (has_id items item.id)
   where
-    by : (b : Bool)
-        → AllByRecursion IsGoodItem (option_to_list (if b then None else Some item))
+    by : (b : Bool) → AllByRecursion IsGoodItem (option_to_list (if b then None else Some item))
     by true = tt
     by false = (good, tt)
 
@@ -210,14 +194,23 @@ module _ (before : List Entry) (are : AreNumbered before) where
       by None good = tt
       by (Some item) good = good.source
 
-  -- THE ORIGINAL ORDER that the chains know
-  pub orig_good : (id : List ℕ) → IfSome (orig_of (chains_of before) id) IsShortId
+  abbrev IsShort : Option (List ℕ) → Type 0
+  IsShort id = IfSome id IsShortId
+
+  -- the original order that the chains know
+  orig_good : (id : List ℕ) → IfSome (orig_of (chains_of before) id) IsShortId
   orig_good id = by (item_with (chains_of before) id) (kept_good id)
     where
       by : (o : Option ChainItem) → IfSome o IsGoodItem
           → IfSome (option_and_then (λ item. item.orig) o) IsShortId
       by None good = tt
       by (Some item) good = good.original
+
+  -- what is known of the original order that a message speaks of
+  pub known_short : (m : Message) (original : Option (List ℕ))
+      → (original ≡ None) ⊎ (original ≡ original_of (known_of before) m) → IfSome original IsShortId
+  known_short m original (inl none) = subst IsShort (sym none) tt
+  known_short m original (inr is) = subst IsShort (sym is) (orig_good (text_in m.cells 11))
 
   -- WHAT A REFUSAL NAMES
   pub named_good : (side : Side) (r : Refusal)

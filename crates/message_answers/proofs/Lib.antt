@@ -9,10 +9,10 @@ pub mod Typed
 mod Answered
 mod Joins
 mod Requested
-mod Requesting
 mod Reported
 pub mod Forwards
 pub mod Carried
+pub mod AnswerCases
 mod Application
 mod FaultWords
 pub mod SaidTexts

@@ -1,14 +1,12 @@
 -- By which table a message of a side is read, and what that says of it.
-use Rattle.std.proofs.Common.{◌≡◌, ℕ, ◌==◌, ◌||◌, not, Bool, true, false, List}
-use Rattle.std.proofs.Common.{codes}
-use Rattle.std.proofs.Common.{Option, Some, None, Result, Ok, Err, IfSome, refl, sym, ap, subst}
-use Rattle.std.proofs.Common.{◌∙◌}
-use Rattle.std.proofs.Common.{if◌then◌else◌, ◌⊎◌, inl, inr}
-use Rattle.std.specs.List.{list_all}
+use Rattle.std.proofs.Common.{◌≡◌, ℕ, Bool, true, false, List, [], ◌∷◌, codes, Option, Some, None}
+use Rattle.std.proofs.Common.{Result, Ok, Err, refl, sym, ap, subst, ◌∙◌, if◌then◌else◌}
+use Rattle.std.specs.List.{AllByRecursion, list_all}
 use Rattle.std.specs.Str.{bytes_eq}
+use Rattle.std.proofs.lemmas.Slice.Eq.{bytes_eq-Decides}
 use Rattle.field_groups.specs.declared.fault.SplitFault.{SplitFault}
 use Rattle.field_groups.specs.Data.{is_data_tag}
-use Rattle.field_groups.specs.Field.{Field, AreFields}
+use Rattle.field_groups.specs.Field.{Field}
 use Rattle.message_tables.specs.declared.table_fault.TableFault.{TableFault}
 use Rattle.message_tables.specs.Tables.{Message, Table, is_one_of}
 use Rattle.message_tables.specs.FirstFault.{first_fault, message_in, message_of, unless}
@@ -16,342 +14,337 @@ use Rattle.order_meaning.specs.declared.Side.{Side}
 use Rattle.order_meaning.specs.declared.Side.TheVariants.{Client, Venue}
 use Rattle.order_meaning.specs.declared.fault.Fault.{Fault}
 use Rattle.order_meaning.specs.declared.fault.Fault.TheVariants.{NotSupported}
-use Rattle.first_faults.specs.Faults.{message_by, of_split, told}
-use Rattle.row_values.specs.Kinds.{Kind, judge}
+use Rattle.first_faults.specs.Faults.{message_by, told}
+use Rattle.row_values.specs.Kinds.{Kind, judge, resend_of}
 use Rattle.rows_fix42.specs.Header.{table as table42}
-use Rattle.rows_fix50.specs.Header.{completed, completed_by}
-use Rattle.refusal_parts.specs.Once.{once, once_by}
+use Rattle.rows_fix50.specs.Header.{completed_by}
+use Rattle.refusal_parts.specs.Once.{once_by}
 use Rattle.dict_fix42.specs.Message.{message42 as request42}
 use Rattle.dict_fix42.specs.Requests.{new_order, cancel_request, replace_request, status_request}
 use Rattle.reports_fix42.specs.Message.{message42 as report42}
 use Rattle.reports_fix42.specs.Message as reports42
 use Rattle.reports_fix50.specs.Message.{message50}
 use Rattle.reports_fix50.specs.Message as reports50
-use Rattle.sound_laws.proofs.PlainFields.{has_good_tags}
+use Rattle.sound_laws.proofs.PlainFields.{clear_fields, has_good_tags}
 use Rattle.report_rules.specs.Down.{IsReport50, Rejects50, Reports50}
-use Rattle.report_rules.proofs.ReadDown.{reject_complete, reject_read, report_complete}
-use Rattle.report_rules.proofs.ReadDown.{report_read}
+use Rattle.report_rules.proofs.ReadDown.{reject_complete, reject_read, report_complete, report_read}
 use Rattle.reject_rules.specs.Laws.{HasWords}
+use Rattle.event_decisions.specs.Body.{fields_of, reading_of, type_of}
+use Rattle.event_decisions.proofs.Bodies.{bodies_are_read}
 use Rattle.message_answers.specs.Message.{is_refusal, is_refusal_type, refusal_in, said_by}
-use Rattle.message_answers.proofs.FaultWords.{fault_words}
-use Rattle.message_answers.proofs.Letters.{among}
-use Rattle.message_answers.proofs.SaidTexts.{AreClear, IsToldWell, id_at, text_at}
-use Rattle.message_answers.proofs.SaidTexts.{told_well}
-
--- a table of the client: of a request, or of a report, which is not supported
-pub record IsClientTable (t : Table Kind) : Type 0 where
-  good : list_all has_good_tags t.items ≡ true
-  pub letter : is_one_of (codes "DFGH89") t.letter ≡ true
-
-pub record IsVenueTable (t : Table Kind) : Type 0 where
-  good : list_all has_good_tags t.items ≡ true
-  is : (t ≡ reports50.report_table) ⊎ (t ≡ reports50.cancel_reject_table)
-
-pub record IsRefusalTable (t : Table Kind) : Type 0 where
-  good : list_all has_good_tags t.items ≡ true
-  pub letter : is_one_of (codes "3j") t.letter ≡ true
-  well : (fields : List Field) → AreClear fields
-      → IsToldWell (refusal_in (message_in judge t fields))
-
--- what fields are, as a message of a side
-pub data Shape (side : Side) (fields : List Field) (split : Option SplitFault)
-    (r : Result Message Fault) : Type 0 where
-  Unknown : r ≡ Err NotSupported → Shape side fields split r
-  OfClient : (t : Table Kind) → side ≡ Client → IsClientTable t
-      → r ≡ message_by (Some t) fields split → Shape side fields split r
-  OfVenue : (t : Table Kind) → side ≡ Venue → IsVenueTable t
-      → r ≡ completed_by (message_by (Some t) fields split) → Shape side fields split r
-  Refuses : (t : Table Kind) → IsRefusalTable t
-      → r ≡ once_by (message_by (Some t) fields split) → Shape side fields split r
+use Rattle.message_answers.specs.Message.{message_of as message_of_side}
+use Rattle.message_answers.proofs.FaultWords.{fault_words, split_words}
+use Rattle.message_answers.proofs.SaidTexts.{AreClear, IsToldWell, id_at, text_at, told_well}
 
 -- ---- the tables
 
-new_is : IsClientTable (table42 68 new_order)
+pub data TableName : Type 0 where
+  NewOrder42 : TableName
+  Cancel42 : TableName
+  Replace42 : TableName
+  Status42 : TableName
+  Report42 : TableName
+  CancelReject42 : TableName
+  Reject42 : TableName
+  Business42 : TableName
+  Report50 : TableName
+  CancelReject50 : TableName
+  Reject50 : TableName
+  Business50 : TableName
+
+abbrev pub table_of : TableName → Table Kind
+table_of NewOrder42 = table42 68 new_order
+table_of Cancel42 = table42 70 cancel_request
+table_of Replace42 = table42 71 replace_request
+table_of Status42 = table42 72 status_request
+table_of Report42 = reports42.execution_report_table
+table_of CancelReject42 = reports42.cancel_reject_table
+table_of Reject42 = reports42.session_reject_table
+table_of Business42 = reports42.business_reject_table
+table_of Report50 = reports50.report_table
+table_of CancelReject50 = reports50.cancel_reject_table
+table_of Reject50 = reports50.session_reject_table
+table_of Business50 = reports50.business_reject_table
+
+-- whose messages are read by it
+abbrev pub side_of : TableName → Side
+side_of Report50 = Venue
+side_of CancelReject50 = Venue
+side_of Reject50 = Venue
+side_of Business50 = Venue
+side_of name = Client
+
+-- what is done with a message that was read by it
+abbrev pub finished_by : TableName → Result Message Fault → Result Message Fault
+finished_by Reject42 r = once_by r
+finished_by Business42 r = once_by r
+finished_by Report50 r = completed_by r
+finished_by CancelReject50 r = completed_by r
+finished_by Reject50 r = once_by r
+finished_by Business50 r = once_by r
+finished_by name r = r
+
+-- and what that makes of it
+abbrev pub finished : TableName → Message → Message
+finished name m = elim (finished_by name (Ok m)) [ Ok x ↦ x | Err fault ↦ m ]
+
+-- THE MESSAGE that fields are by a table
+abbrev pub read_as : TableName → List Field → Option SplitFault → Result Message Fault
+read_as name fields split = finished_by name (message_by (Some (table_of name)) fields split)
+
+abbrev pub said_as : TableName → List Field → Message
+said_as name fields = finished name (message_in judge (table_of name) fields)
+
+pub finished_ok : (name : TableName) (r : Result Message Fault) (m : Message)
+    → finished_by name r ≡ Ok m → (x : Message) × (r ≡ Ok x) × (m ≡ finished name x)
+finished_ok Reject42 (Err fault) m is = absurd cc
+finished_ok name (Err fault) m is = absurd cc
+finished_ok name (Ok x) m is = let same : finished name x ≡ m = cc in (x, refl, sym same)
+
+pub finished_fault : (name : TableName) (r : Result Message Fault) (fault : Fault)
+    → finished_by name r ≡ Err fault → r ≡ Err fault
+finished_fault Reject42 (Ok x) fault is = absurd cc
+finished_fault name (Ok x) fault is = absurd cc
+finished_fault Reject42 (Err e) fault is = is
+finished_fault name (Err e) fault is = is
+
+-- what holds of each table, and of what is read by it
+good_tags : (name : TableName) → list_all has_good_tags (table_of name).items ≡ true
 unfolding is_data_tag
-new_is = record { good = refl; letter = refl }
+good_tags NewOrder42 = refl
+good_tags name = refl
 
-cancel_is : IsClientTable (table42 70 cancel_request)
+types_of : (name : TableName) (fields : List Field)
+    → is_one_of (codes "DFGH893j") (said_as name fields).letter ≡ true
+types_of NewOrder42 fields = refl
+types_of name fields = refl
+
+letter_of : (name : TableName) (fields : List Field)
+    → (said_as name fields).letter ≡ (table_of name).letter
+letter_of NewOrder42 fields = refl
+letter_of name fields = refl
+
+resend_by : (name : TableName) (fields : List Field) → is_refusal (said_as name fields) ≡ false
+    → (said_as name fields).resend ≡ resend_of fields
+resend_by Reject42 fields none = absurd cc
+resend_by Business42 fields none = absurd cc
+resend_by Reject50 fields none = absurd cc
+resend_by Business50 fields none = absurd cc
+resend_by name fields none = refl
+
+well_by : (name : TableName) (fields : List Field) → AreClear fields
+    → is_refusal (said_as name fields) ≡ true → IsToldWell (refusal_in (said_as name fields))
 unfolding is_data_tag
-cancel_is = record { good = refl; letter = refl }
-
-replace_is : IsClientTable (table42 71 replace_request)
-unfolding is_data_tag
-replace_is = record { good = refl; letter = refl }
-
-status_is : IsClientTable (table42 72 status_request)
-unfolding is_data_tag
-status_is = record { good = refl; letter = refl }
-
-report_is : IsClientTable reports42.execution_report_table
-unfolding is_data_tag
-report_is = record { good = refl; letter = refl }
-
-reject_is : IsClientTable reports42.cancel_reject_table
-unfolding is_data_tag
-reject_is = record { good = refl; letter = refl }
-
-session42_is : IsRefusalTable reports42.session_reject_table
-unfolding is_data_tag
-session42_is = record {
-  good = refl;
-  letter = refl;
-  well = λ fields clear. told_well (message_in judge reports42.session_reject_table fields) tt
-      (text_at fields clear 58 refl);
-}
-
-business42_is : IsRefusalTable reports42.business_reject_table
-unfolding is_data_tag
-business42_is = record {
-  good = refl;
-  letter = refl;
-  well = λ fields clear. told_well (message_in judge reports42.business_reject_table fields)
-      (id_at fields clear 379 refl) (text_at fields clear 58 refl);
-}
-
-session50_is : IsRefusalTable reports50.session_reject_table
-unfolding is_data_tag
-session50_is = record {
-  good = refl;
-  letter = refl;
-  well = λ fields clear. told_well (message_in judge reports50.session_reject_table fields) tt
-      (text_at fields clear 58 refl);
-}
-
-business50_is : IsRefusalTable reports50.business_reject_table
-unfolding is_data_tag
-business50_is = record {
-  good = refl;
-  letter = refl;
-  well = λ fields clear. told_well (message_in judge reports50.business_reject_table fields)
-      (id_at fields clear 379 refl) (text_at fields clear 58 refl);
-}
-
-venue_report_is : IsVenueTable reports50.report_table
-unfolding is_data_tag
-venue_report_is = record { good = refl; is = inl refl }
-
-venue_reject_is : IsVenueTable reports50.cancel_reject_table
-unfolding is_data_tag
-venue_reject_is = record { good = refl; is = inr refl }
-
--- ---- the message of a side
-
-module _ (msg_type : List ℕ) (fields : List Field) (split : Option SplitFault) where
-  of_request : Shape Client fields split (request42 msg_type fields split)
-  unfolding request42
-  of_request = by (bytes_eq msg_type (codes "D")) (bytes_eq msg_type (codes "F"))
-      (bytes_eq msg_type (codes "G")) (bytes_eq msg_type (codes "H"))
-    where
-      by : (d f g h : Bool) → Shape Client fields split
-          (message_by (if d then Some (table42 68 new_order) else
-          (if f then Some (table42 70 cancel_request) else
-          (if g then Some (table42 71 replace_request) else
-          (if h then Some (table42 72 status_request) else None)))) fields split)
-      by true f g h = OfClient (table42 68 new_order) refl new_is refl
-      by false true g h = OfClient (table42 70 cancel_request) refl cancel_is refl
-      by false false true h = OfClient (table42 71 replace_request) refl replace_is refl
-      by false false false true = OfClient (table42 72 status_request) refl status_is refl
-      by false false false false = Unknown refl
-
-  of_refusal : Shape Client fields split (report42 msg_type fields split)
-  unfolding report42
-  of_refusal = by (bytes_eq msg_type (codes "8")) (bytes_eq msg_type (codes "9"))
-      (bytes_eq msg_type (codes "3")) (bytes_eq msg_type (codes "j"))
-    where
-      by : (a b c d : Bool) → Shape Client fields split
-          (if a then message_by (Some reports42.execution_report_table) fields split else
-          (if b then message_by (Some reports42.cancel_reject_table) fields split else
-          (if c then once_by (message_by (Some reports42.session_reject_table) fields split) else
-          (if d then once_by (message_by (Some reports42.business_reject_table) fields split) else
-          Err NotSupported))))
-      by true b c d = OfClient reports42.execution_report_table refl report_is refl
-      by false true c d = OfClient reports42.cancel_reject_table refl reject_is refl
-      by false false true d = Refuses reports42.session_reject_table session42_is refl
-      by false false false true = Refuses reports42.business_reject_table business42_is refl
-      by false false false false = Unknown refl
-
-  of_venue : Shape Venue fields split (message50 msg_type fields split)
-  unfolding message50
-  of_venue = by (bytes_eq msg_type (codes "8")) (bytes_eq msg_type (codes "9"))
-      (bytes_eq msg_type (codes "3")) (bytes_eq msg_type (codes "j"))
-    where
-      by : (a b c d : Bool) → Shape Venue fields split
-          (if a then completed_by (message_by (Some reports50.report_table) fields split) else
-          (if b then completed_by (message_by (Some reports50.cancel_reject_table) fields split)
-          else
-          (if c then once_by (message_by (Some reports50.session_reject_table) fields split) else
-          (if d then once_by (message_by (Some reports50.business_reject_table) fields split) else
-          Err NotSupported))))
-      by true b c d = OfVenue reports50.report_table refl venue_report_is refl
-      by false true c d = OfVenue reports50.cancel_reject_table refl venue_reject_is refl
-      by false false true d = Refuses reports50.session_reject_table session50_is refl
-      by false false false true = Refuses reports50.business_reject_table business50_is refl
-      by false false false false = Unknown refl
-
-  -- THE SHAPE of what a side says
-  pub shape : (side : Side) → Shape side fields split (said_by side msg_type fields split)
-  shape Client = by (is_refusal_type msg_type)
-    where
-      by : (b : Bool) → Shape Client fields split
-          (if b then report42 msg_type fields split else request42 msg_type fields split)
-      by true = of_refusal
-      by false = of_request
-  shape Venue = of_venue
+well_by Reject42 fields clear is =
+    told_well (said_as Reject42 fields) tt (text_at fields clear 58 refl)
+well_by Business42 fields clear is = told_well (said_as Business42 fields)
+    (id_at fields clear 379 refl) (text_at fields clear 58 refl)
+well_by Reject50 fields clear is =
+    told_well (said_as Reject50 fields) tt (text_at fields clear 58 refl)
+well_by Business50 fields clear is = told_well (said_as Business50 fields)
+    (id_at fields clear 379 refl) (text_at fields clear 58 refl)
+well_by name fields clear is = absurd cc
 
 -- ---- a message that was read by a table
-
--- the types of all messages
-abbrev pub types : List ℕ
-types = codes "DFGH893j"
 
 -- it was read at no fault
 pub record IsRead (t : Table Kind) (fields : List Field) (split : Option SplitFault) (m : Message)
     : Type 0 where
   pub whole : split ≡ None
+  pub none : first_fault judge t fields ≡ None
   pub is : m ≡ message_in judge t fields
 
 pub read_by : (t : Table Kind) (fields : List Field) (split : Option SplitFault) (m : Message)
     → message_by (Some t) fields split ≡ Ok m → IsRead t fields split m
 unfolding message_of
 read_by t fields (Some fault) m is = absurd cc
-read_by t fields None m is = by (first_fault judge t fields) is
+read_by t fields None m is = by (first_fault judge t fields) refl is
   where
-    by : (f : Option TableFault) → told (unless f (message_in judge t fields)) ≡ Ok m
-        → IsRead t fields None m
-    by None is =
-        let same : message_in judge t fields ≡ m = cc in record { whole = refl; is = sym same }
-    by (Some f) is = absurd cc
+    by : (f : Option TableFault) → first_fault judge t fields ≡ f
+        → told (unless f (message_in judge t fields)) ≡ Ok m → IsRead t fields None m
+    by None none is =
+        let same : message_in judge t fields ≡ m = cc in
+        record { whole = refl; none = none; is = sym same }
+    by (Some f) none is = absurd cc
 
--- what was changed of it afterwards
-pub once_ok : (r : Result Message Fault) (m : Message) → once_by r ≡ Ok m
-    → (x : Message) × (r ≡ Ok x) × (once x ≡ m)
-once_ok (Ok x) m is = let same : once x ≡ m = cc in (x, refl, same)
-once_ok (Err e) m is = absurd cc
+pub is_said : (name : TableName) (fields : List Field) (split : Option SplitFault) (m : Message)
+    → read_as name fields split ≡ Ok m → m ≡ said_as name fields
+is_said name fields split m is =
+    let p = finished_ok name (message_by (Some (table_of name)) fields split) m is in
+    p.2 ∙ ap (finished name) (read_by (table_of name) fields split p.0 p.1).is
 
-pub completed_ok : (r : Result Message Fault) (m : Message) → completed_by r ≡ Ok m
-    → (x : Message) × (r ≡ Ok x) × (completed x ≡ m)
-completed_ok (Ok x) m is = let same : completed x ≡ m = cc in (x, refl, same)
-completed_ok (Err e) m is = absurd cc
+-- ---- the messages of a type
 
-once_fault : (r : Result Message Fault) (fault : Fault) → once_by r ≡ Err fault → r ≡ Err fault
-once_fault (Ok x) fault is = absurd cc
-once_fault (Err e) fault is = is
+-- As what the messages of a type are read.
+pub data Shape (side : Side) (msg_type : List ℕ)
+    (read : List Field → Option SplitFault → Result Message Fault) : Type 0 where
+  Unknown : ((fields : List Field) (split : Option SplitFault)
+      → read fields split ≡ Err NotSupported) → Shape side msg_type read
+  ReadAs : (name : TableName) → side_of name ≡ side → msg_type ≡ (table_of name).letter ∷ []
+      → ((fields : List Field) (split : Option SplitFault)
+      → read fields split ≡ read_as name fields split) → Shape side msg_type read
 
-completed_fault : (r : Result Message Fault) (fault : Fault) → completed_by r ≡ Err fault
-    → r ≡ Err fault
-completed_fault (Ok x) fault is = absurd cc
-completed_fault (Err e) fault is = is
+module _ (msg_type : List ℕ) where
+  -- by the first of some tables whose type it is
+  abbrev first_as : List TableName → List Field → Option SplitFault → Result Message Fault
+  first_as [] fields split = Err NotSupported
+  first_as (name ∷ names) fields split =
+      if bytes_eq msg_type ((table_of name).letter ∷ []) then read_as name fields split else
+      first_as names fields split
 
-whole : (t : Table Kind) (fields : List Field) (split : Option SplitFault) (m : Message)
-    → completed_by (message_by (Some t) fields split) ≡ Ok m
-    → completed_by (message_by (Some t) fields None) ≡ Ok m
-whole t fields None m is = is
-whole t fields (Some fault) m is = absurd cc
+  first_shape : (side : Side) (names : List TableName)
+      → AllByRecursion (λ name. side_of name ≡ side) names → Shape side msg_type (first_as names)
+  first_shape side [] of = Unknown (λ fields split. refl)
+  first_shape side (name ∷ names) of =
+      by (bytes_eq msg_type ((table_of name).letter ∷ [])) refl (first_shape side names of.1)
+    where
+      by : (b : Bool) → bytes_eq msg_type ((table_of name).letter ∷ []) ≡ b
+          → Shape side msg_type (first_as names)
+          → Shape side msg_type (λ fields split. if b then read_as name fields split else
+          first_as names fields split)
+      by true is rest = ReadAs name of.0
+          ((bytes_eq-Decides msg_type ((table_of name).letter ∷ [])).0 is) (λ fields split. refl)
+      by false is rest = rest
 
-module _ (side : Side) (fields : List Field) (split : Option SplitFault) (r : Result Message Fault)
+  pub of_request : Shape Client msg_type (request42 msg_type)
+  unfolding request42
+  of_request = subst (Shape Client msg_type)
+      (λ i fields split. by (bytes_eq msg_type (codes "D")) (bytes_eq msg_type (codes "F"))
+      (bytes_eq msg_type (codes "G")) (bytes_eq msg_type (codes "H")) fields split i)
+      (first_shape Client (NewOrder42 ∷ Cancel42 ∷ Replace42 ∷ Status42 ∷ [])
+      (refl, (refl, (refl, (refl, tt)))))
+    where
+      by : (d f g h : Bool) (fields : List Field) (split : Option SplitFault)
+          → (if d then read_as NewOrder42 fields split else
+          (if f then read_as Cancel42 fields split else
+          (if g then read_as Replace42 fields split else
+          (if h then read_as Status42 fields split else Err NotSupported))))
+          ≡ message_by (if d then Some (table_of NewOrder42) else
+          (if f then Some (table_of Cancel42) else (if g then Some (table_of Replace42) else
+          (if h then Some (table_of Status42) else None)))) fields split
+      by true f g h fields split = refl
+      by false true g h fields split = refl
+      by false false true h fields split = refl
+      by false false false true fields split = refl
+      by false false false false fields split = refl
+
+  pub of_client : Shape Client msg_type (report42 msg_type)
+  unfolding report42
+  of_client = first_shape Client (Report42 ∷ CancelReject42 ∷ Reject42 ∷ Business42 ∷ [])
+      (refl, (refl, (refl, (refl, tt))))
+
+  pub of_venue : Shape Venue msg_type (message50 msg_type)
+  unfolding message50
+  of_venue = first_shape Venue (Report50 ∷ CancelReject50 ∷ Reject50 ∷ Business50 ∷ [])
+      (refl, (refl, (refl, (refl, tt))))
+
+  -- THE SHAPE of what a side says
+  pub shape : (side : Side) → Shape side msg_type (said_by side msg_type)
+  shape Client = by (is_refusal_type msg_type)
+    where
+      by : (b : Bool) → Shape Client msg_type (λ fields split. if b
+          then report42 msg_type fields split else request42 msg_type fields split)
+      by true = of_client
+      by false = of_request
+  shape Venue = of_venue
+
+-- THE TYPE of a message that was read
+pub type_by : {side : Side} {msg_type : List ℕ}
+    {read : List Field → Option SplitFault → Result Message Fault} → Shape side msg_type read
+    → (fields : List Field) (split : Option SplitFault) (m : Message) → read fields split ≡ Ok m
+    → msg_type ≡ m.letter ∷ []
+type_by (Unknown none) fields split m is = absurd (cc (none fields split, is))
+type_by (ReadAs name of typed e) fields split m is =
+    typed ∙ ap (λ (l : ℕ). l ∷ []) (sym (ap (λ (x : Message). x.letter)
+    (is_said name fields split m (sym (e fields split) ∙ is)) ∙ letter_of name fields))
+
+-- THE NUMBERS OF A FAULT have 32 bits.
+pub words_of_fault : (side : Side) (body : List ℕ) (fault : Fault)
+    → message_of_side side body ≡ Err fault → HasWords fault
+words_of_fault side body fault is = by (shape (type_of body) side)
   where
-    -- THE NUMBERS OF A FAULT have 32 bits.
-    pub words_of_fault : (fault : Fault) → AreFields None fields
-        → IfSome split (λ s. HasWords (of_split s)) → Shape side fields split r → r ≡ Err fault
-        → HasWords fault
-    words_of_fault fault good splits (Unknown none) is =
-        let same : NotSupported ≡ fault = cc in
+    by : Shape side (type_of body) (said_by side (type_of body)) → HasWords fault
+    by (Unknown none) =
+        let same : NotSupported ≡ fault = cc (none (fields_of body) (reading_of body).fault, is) in
         subst (λ (x : Fault). HasWords x) same tt
-    words_of_fault fault good splits (OfClient t of table e) is =
-        fault_words t table.good fields split fault good splits (sym e ∙ is)
-    words_of_fault fault good splits (OfVenue t of table e) is =
-        fault_words t table.good fields split fault good splits
-        (completed_fault (message_by (Some t) fields split) fault (sym e ∙ is))
-    words_of_fault fault good splits (Refuses t table e) is =
-        fault_words t table.good fields split fault good splits
-        (once_fault (message_by (Some t) fields split) fault (sym e ∙ is))
+    by (ReadAs name of typed reads) = fault_words (table_of name) (good_tags name)
+        (fields_of body) (reading_of body).fault fault (bodies_are_read body).good
+        (split_words body) (finished_fault name
+        (message_by (Some (table_of name)) (fields_of body) (reading_of body).fault) fault
+        (sym (reads (fields_of body) (reading_of body).fault) ∙ is))
 
-    module _ (m : Message) (reads : r ≡ Ok m) where
-      venue_letter : (t : Table Kind) → IsVenueTable t → is_one_of (codes "89") t.letter ≡ true
-      venue_letter t table = by table.is
-        where
-          by : (t ≡ reports50.report_table) ⊎ (t ≡ reports50.cancel_reject_table)
-              → is_one_of (codes "89") t.letter ≡ true
-          by (inl is) = ap (λ (x : Table Kind). is_one_of (codes "89") x.letter) is
-          by (inr is) = ap (λ (x : Table Kind). is_one_of (codes "89") x.letter) is
+-- ---- a message of a side
 
-      pub client_read : (t : Table Kind) → r ≡ message_by (Some t) fields split
-          → IsRead t fields split m
-      client_read t e = read_by t fields split m (sym e ∙ reads)
+module _ (side : Side) (body : List ℕ) (m : Message) where
+  -- the table by which it was read, and that it is what the fields say by it
+  pub record IsSaid : Type 0 where
+    pub name : TableName
+    pub of : side_of name ≡ side
+    pub typed : type_of body ≡ (table_of name).letter ∷ []
+    pub read : read_as name (fields_of body) (reading_of body).fault ≡ Ok m
+    pub is : m ≡ said_as name (fields_of body)
 
-      pub once_read : (t : Table Kind) → r ≡ once_by (message_by (Some t) fields split)
-          → (m ≡ once (message_in judge t fields))
-      once_read t e =
-          let p = once_ok (message_by (Some t) fields split) m (sym e ∙ reads) in
-          sym p.2 ∙ ap once (read_by t fields split p.0 p.1).is
+  pub said : message_of_side side body ≡ Ok m → IsSaid
+  said reads = by (shape (type_of body) side)
+    where
+      by : Shape side (type_of body) (said_by side (type_of body)) → IsSaid
+      by (Unknown none) = absurd (cc (none (fields_of body) (reading_of body).fault, reads))
+      by (ReadAs name of typed e) =
+          let read : read_as name (fields_of body) (reading_of body).fault ≡ Ok m =
+          sym (e (fields_of body) (reading_of body).fault) ∙ reads in
+          record {
+            name = name;
+            of = of;
+            typed = typed;
+            read = read;
+            is = is_said name (fields_of body) (reading_of body).fault m read;
+          }
 
-      pub venue_read : (t : Table Kind) → r ≡ completed_by (message_by (Some t) fields split)
-          → m ≡ completed (message_in judge t fields)
-      venue_read t e =
-          let p = completed_ok (message_by (Some t) fields split) m (sym e ∙ reads) in
-          sym p.2 ∙ ap completed (read_by t fields split p.0 p.1).is
+  module _ (reads : message_of_side side body ≡ Ok m) where
+    -- ITS TYPE, and its letter
+    pub said_type : type_of body ≡ m.letter ∷ []
+    said_type = type_by (shape (type_of body) side) (fields_of body) (reading_of body).fault m reads
 
-      -- THE LETTER of a message
-      pub letter_is : Shape side fields split r → is_one_of types m.letter ≡ true
-      letter_is (Unknown none) = absurd cc
-      letter_is (OfClient t of table e) =
-          ap (λ (x : Message). is_one_of types x.letter) (client_read t e).is
-          ∙ among (is_one_of types) (codes "DFGH89") t.letter refl table.letter
-      letter_is (OfVenue t of table e) =
-          ap (λ (x : Message). is_one_of types x.letter) (venue_read t e)
-          ∙ among (is_one_of types) (codes "89") t.letter refl (venue_letter t table)
-      letter_is (Refuses t table e) =
-          ap (λ (x : Message). is_one_of types x.letter) (once_read t e)
-          ∙ among (is_one_of types) (codes "3j") t.letter refl table.letter
+    pub letter_is : is_one_of (codes "DFGH893j") m.letter ≡ true
+    letter_is =
+        let s = said reads in
+        ap (λ (x : Message). is_one_of (codes "DFGH893j") x.letter) s.is
+        ∙ types_of s.name (fields_of body)
 
-      not_both : (letter : ℕ) (listed : List ℕ) → m.letter ≡ letter
-          → list_all (λ l. not (l == 51 || l == 106)) listed ≡ true
-          → is_one_of listed letter ≡ true → is_refusal m ≡ true → ⊥
-      not_both letter listed same none there refuses =
-          by (letter == 51 || letter == 106)
-          (among (λ l. not (l == 51 || l == 106)) listed letter none there)
-          (ap (λ (l : ℕ). l == 51 || l == 106) (sym same) ∙ refuses)
-        where
-          by : (b : Bool) → not b ≡ true → b ≡ true → ⊥
-          by true n h = absurd cc
-          by false n h = absurd cc
+    -- A message that is no refusal says whether it repeats another as its fields do.
+    pub resend_is : is_refusal m ≡ false → m.resend ≡ resend_of (fields_of body)
+    resend_is none =
+        let s = said reads in
+        ap (λ (x : Message). x.resend) s.is ∙ resend_by s.name (fields_of body)
+        (ap (λ (x : Message). is_refusal x) (sym s.is) ∙ none)
 
-      -- A REFUSAL says what can be told.
-      pub refuses_well : AreClear fields → is_refusal m ≡ true → Shape side fields split r
-          → IsToldWell (refusal_in m)
-      refuses_well clear refuses (Unknown none) = absurd cc
-      refuses_well clear refuses (OfClient t of table e) =
-          absurd (not_both t.letter (codes "DFGH89")
-          (ap (λ (x : Message). x.letter) (client_read t e).is) refl table.letter refuses)
-      refuses_well clear refuses (OfVenue t of table e) =
-          absurd (not_both t.letter (codes "89")
-          (ap (λ (x : Message). x.letter) (venue_read t e)) refl (venue_letter t table) refuses)
-      refuses_well clear refuses (Refuses t table e) =
-          subst (λ (x : Message). IsToldWell (refusal_in x)) (sym (once_read t e))
-          (table.well fields clear)
+    clear : AreClear (fields_of body)
+    clear = clear_fields judge None (fields_of body) (bodies_are_read body).good
 
-      -- A REPORT of the venue
-      pub venue_report : AreClear fields → side ≡ Venue → is_refusal m ≡ false
-          → Shape side fields split r → IsReport50 m
-      venue_report clear of none (Unknown is) = absurd cc
-      venue_report clear of none (OfClient t of_client table e) = absurd cc
-      venue_report clear of none (OfVenue t of_venue table e) = by table.is (sym e ∙ reads)
-        where
-          by : (t ≡ reports50.report_table) ⊎ (t ≡ reports50.cancel_reject_table)
-              → completed_by (message_by (Some t) fields split) ≡ Ok m → IsReport50 m
-          by (inl is) read =
-              let P : Table Kind → Type 0 =
-              λ x. completed_by (message_by (Some x) fields split) ≡ Ok m in
-              Reports50 (report_complete m (report_read fields clear m
-              (whole reports50.report_table fields split m (subst P is read))).read)
-          by (inr is) read =
-              let P : Table Kind → Type 0 =
-              λ x. completed_by (message_by (Some x) fields split) ≡ Ok m in
-              Rejects50 (reject_complete m (reject_read fields clear m
-              (whole reports50.cancel_reject_table fields split m (subst P is read))).read)
-      venue_report clear of none (Refuses t table e) =
-          let refuses : (t.letter == 51 || t.letter == 106) ≡ true =
-          among (λ l. l == 51 || l == 106) (codes "3j") t.letter refl table.letter in
-          let wrong : true ≡ false =
-          sym (ap (λ (x : Message). is_refusal x) (once_read t e) ∙ refuses) ∙ none in
-          absurd cc
+    -- A REFUSAL says what can be told.
+    pub refuses_well : is_refusal m ≡ true → IsToldWell (refusal_in m)
+    refuses_well refuses =
+        let s = said reads in
+        subst (λ (x : Message). IsToldWell (refusal_in x)) (sym s.is)
+        (well_by s.name (fields_of body) clear
+        (ap (λ (x : Message). is_refusal x) (sym s.is) ∙ refuses))
+
+    -- A REPORT of the venue
+    pub venue_report : side ≡ Venue → is_refusal m ≡ false → IsReport50 m
+    venue_report venue none =
+        let s = said reads in
+        let p = finished_ok s.name
+        (message_by (Some (table_of s.name)) (fields_of body) (reading_of body).fault) m s.read in
+        let r = read_by (table_of s.name) (fields_of body) (reading_of body).fault p.0 p.1 in
+        by s.name (s.of ∙ venue) ((λ i. read_as s.name (fields_of body) (sym r.whole i)) ∙ s.read)
+        (ap (λ (x : Message). is_refusal x) (sym s.is) ∙ none)
+      where
+        by : (name : TableName) → side_of name ≡ Venue → read_as name (fields_of body) None ≡ Ok m
+            → is_refusal (said_as name (fields_of body)) ≡ false → IsReport50 m
+        by Report50 of read none =
+            Reports50 (report_complete m (report_read (fields_of body) clear m read).read)
+        by CancelReject50 of read none =
+            Rejects50 (reject_complete m (reject_read (fields_of body) clear m read).read)
+        by Reject50 of read none = absurd cc
+        by Business50 of read none = absurd cc
+        by name of read none = absurd cc

@@ -49,8 +49,7 @@ type_is msg_type business is named =
     by (bytes_eq msg_type (codes "3")) (bytes_eq msg_type (codes "j")) refl refl is
   where
     by : (three j : Bool) → bytes_eq msg_type (codes "3") ≡ three
-        → bytes_eq msg_type (codes "j") ≡ j → (three || j) ≡ true
-        → msg_type ≡ refusal_type business
+        → bytes_eq msg_type (codes "j") ≡ j → (three || j) ≡ true → msg_type ≡ refusal_type business
     by three true a b h = (bytes_eq-Decides msg_type (codes "j")).0 b
         ∙ ap refusal_type (sym (named ∙ b))
     by true false a b h = (bytes_eq-Decides msg_type (codes "3")).0 a

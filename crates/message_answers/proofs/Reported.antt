@@ -4,6 +4,7 @@ use Rattle.std.proofs.Common.{Option, Some, None, Result, Ok, Err, refl, sym, ap
 use Rattle.std.proofs.Common.{length, option_map, unwrap_or, if◌then◌else◌}
 use Rattle.std.specs.Prelude.{IfOk, is_none, is_some, not}
 use Rattle.std.specs.Str.{bytes_eq}
+use Rattle.std.proofs.lemmas.Result.{IfOk-weaker}
 use Rattle.std.proofs.lemmas.Slice.Eq.{bytes_eq-Decides}
 use Rattle.field_groups.specs.declared.fault.SplitFault.{SplitFault}
 use Rattle.field_groups.specs.Field.{Field, AreFields, body_of}
@@ -74,9 +75,8 @@ message_is msg_type fields fault plain =
         (if b then Some cancel_reject_table else None)) fields fault)
     by true b c d h = refl
     by false true c d h = refl
-    by false false true d h = absurd cc
-    by false false false true h = absurd cc
     by false false false false h = refl
+    by false false c d h = absurd cc
 
 tells_of : (fault : Fault) (x : Result Message Fault) → x ≡ Err fault → Tells fault x
 tells_of faults.NoMemory x e = tt
@@ -88,7 +88,8 @@ lack_is : (known : AnyKnown) (m : Message) → IsReport50 m
     → lack_of_report known m ≡ lack_by kinds (rules_for (original_of known m) m) m
 lack_is known m (Reports50 c) =
     (λ i. if means_nothing m c i then Some 150 else (if (c.sound.letter i == 57)
-    && (is_none (said_at m.cells (Tag 41)) && is_none (original_of known m)) then Some 41 else None))
+    && (is_none (said_at m.cells (Tag 41)) && is_none (original_of known m))
+    then Some 41 else None))
     ∙ by (lacks_type (said_at m.cells (Tag 150) >>= code_of)) ∙ sym (report_lack m)
     ∙ sym (ap (λ rs. lack_by kinds rs m) (rules_of (original_of known m) m 56 c.sound.letter))
   where
@@ -110,7 +111,8 @@ lack_is known m (Rejects50 c) =
     ∙ sym (ap (λ rs. lack_by kinds rs m) (rules_of (original_of known m) m 57 c.sound.letter))
   where
     by : (text other : Said) → (if is_none text && is_none other then Some 41 else None)
-        ≡ or_else (lack_if (not (is_some (or_known text other))) 41) (or_else (lack_if false 150) None)
+        ≡ or_else (lack_if (not (is_some (or_known text other))) 41)
+        (or_else (lack_if false 150) None)
     by None None = refl
     by None (Some id) = refl
     by (Some text) other = refl
@@ -171,7 +173,8 @@ module _ (k : GivenKnown) (a : GivenAsked) (split : IsSplit a) (of_venue : a.sid
         → IsReportOf (completed (message_by_table judge report_table fields))
     unfolding message50
     report_8 test =
-        let is : a.msg_type.now ≡ codes "8" = (bytes_eq-Decides a.msg_type.now (codes "8")).0 test in
+        let is : a.msg_type.now ≡ codes "8" =
+        (bytes_eq-Decides a.msg_type.now (codes "8")).0 test in
         let told = ap (λ (t : List ℕ). message50 t fields None) is
         ∙ by_table report_table (good_eight a.msg_type.now fields is_good test) in
         record {
@@ -257,57 +260,43 @@ module _ (k : GivenKnown) (a : GivenAsked) (split : IsSplit a) (of_venue : a.sid
           ∙ lacking (lack_by kinds (rules_for original m) m)
           (by_rules kinds (rules_for original m) m) tag (h m read.1.told)) refused
 
+      message_read : message_in a ≡ Ok m
+      message_read = asked_is
+          ∙ (λ i. message50 a.msg_type.now (sym good.same i) (good.whole i)) ∙ read.1.told
+
       module _ {E : Type 0} (result : Result GivenAnswer E) where
+        abbrev Answers : Type 0
+        Answers = IfOk result (IsAnswer k a) × IfOk result (Joins k a)
+
+        -- THE ANSWER to a report at no fault, and what joins by it
+        answers : IfOk result Spelled → Answers
+        answers h = (
+          IfOk-weaker result Spelled (IsAnswer k a) (λ answer spelled.
+              answers_message k a split m answer message_read read.1.other
+              (subst (λ (side : Side).
+              Gives (asked_in a) (in_order side (known_in k) k.active (asked_in a) m)
+              (words_in answer)) (sym of_venue)
+              (gives_spelled a split.msg_type Venue original m (lack_of_report (known_in k) m) None
+              answer of_venue spelled))) h,
+          IfOk-weaker result Spelled (Joins k a) (λ answer. joins_report k a original m
+              (lack_of_report (known_in k) m) answer read.1.joins) h,
+        )
+
         pub sent : (before after : List ℕ) → before ≡ []
             → PutsDown a.msg_type.now known fields before after
-            → IfOk result (IsForwarded a a.msg_type.now (resend_of fields) after None)
-            → IfOk result Spelled
-        sent before after none puts h = by result h
-          where
-            put : IsPut original m [] after
-            put =
-                let P : Said → Type 0 = λ id. IsPut id m before after in
-                let Q : List ℕ → Type 0 = λ old. IsPut original m old after in
-                subst Q none (subst P original_is (puts m read.1.told))
-
-            by : (r : Result GivenAnswer E)
-                → IfOk r (IsForwarded a a.msg_type.now (resend_of fields) after None)
-                → IfOk r Spelled
-            by (Ok answer) h = goes after answer put h
-            by (Err error) h = tt
+            → IfOk result (IsForwarded a a.msg_type.now (resend_of fields) after None) → Answers
+        sent before after none puts h =
+            let P : Said → Type 0 = λ id. IsPut id m before after in
+            let Q : List ℕ → Type 0 = λ old. IsPut original m old after in
+            let put : IsPut original m [] after =
+            subst Q none (subst P original_is (puts m read.1.told)) in
+            answers (IfOk-weaker result
+            (IsForwarded a a.msg_type.now (resend_of fields) after None) Spelled
+            (λ answer. goes after answer put) h)
 
         pub refused : (lack : Lack) → LacksDown a.msg_type.now known fields lack
-            → IfOk result (IsLacking a lack) → IfOk result Spelled
-        refused lack h is = by result is
-          where
-            by : (r : Result GivenAnswer E) → IfOk r (IsLacking a lack) → IfOk r Spelled
-            by (Ok answer) refused =
-                let P : Said → Type 0 = λ id. LacksDown a.msg_type.now id fields lack in
-                lacks_it lack answer (subst P original_is h) refused
-            by (Err error) refused = tt
-
-        message_read : message_in a ≡ Ok m
-        message_read = asked_is
-            ∙ (λ i. message50 a.msg_type.now (sym good.same i) (good.whole i)) ∙ read.1.told
-
-        -- THE ANSWER to a report at no fault
-        pub answers : IfOk result Spelled → IfOk result (IsAnswer k a)
-        answers h = by result h
-          where
-            by : (r : Result GivenAnswer E) → IfOk r Spelled → IfOk r (IsAnswer k a)
-            by (Ok answer) spelled =
-                answers_message k a split m answer message_read read.1.other
-                (subst (λ (side : Side).
-                Gives (asked_in a) (in_order side (known_in k) k.active (asked_in a) m)
-                (words_in answer)) (sym of_venue)
-                (gives_spelled a split.msg_type Venue original m (lack_of_report (known_in k) m) None
-                answer of_venue spelled))
-            by (Err error) spelled = tt
-
-        pub joins : IfOk result Spelled → IfOk result (Joins k a)
-        joins h = by result h
-          where
-            by : (r : Result GivenAnswer E) → IfOk r Spelled → IfOk r (Joins k a)
-            by (Ok answer) spelled =
-                joins_report k a original m (lack_of_report (known_in k) m) answer read.1.joins spelled
-            by (Err error) spelled = tt
+            → IfOk result (IsLacking a lack) → Answers
+        refused lack h is =
+            let P : Said → Type 0 = λ id. LacksDown a.msg_type.now id fields lack in
+            answers (IfOk-weaker result (IsLacking a lack) Spelled
+            (λ answer. lacks_it lack answer (subst P original_is h)) is)

@@ -1,23 +1,22 @@
 -- The ids and the texts that the fields of a body say have no SOH, and are not too long.
-use Rattle.std.proofs.Common.{◌≡◌, ◌≤◌, ℕ, Bool, true, false, not, List, [], ◌∷◌, length}
-use Rattle.std.proofs.Common.{Option, Some, None, Ok, Err, IfSome, refl, arith}
-use Rattle.std.proofs.Common.{if◌then◌else◌}
+use Rattle.std.proofs.Common.{◌≡◌, ◌≤◌, ℕ, Bool, true, false, List, [], ◌∷◌, length, Option, Some}
+use Rattle.std.proofs.Common.{None, Ok, Err, IfSome, refl, arith, if◌then◌else◌}
 use Rattle.std.specs.Prelude.{nat_le, ◌&&◌}
 use Rattle.std.specs.Char.{is_ascii_digit}
 use Rattle.std.specs.Int.{is_in_range}
 use Rattle.std.specs.List.{AllByRecursion, list_all, list_any}
 use Rattle.std.specs.Str.Parse.{digits_value}
-use Rattle.std.proofs.lemmas.Bool.Decides.{nat_tests}
+use Rattle.std.proofs.lemmas.Bool.{leb-true}
 use Rattle.typed_fields.specs.declared.fault.FieldFault.TheVariants.{Range}
 use Rattle.field_groups.specs.Data.{is_data_tag}
 use Rattle.field_groups.specs.Field.{Field, AreFields, is_soh}
 use Rattle.field_groups.specs.HeadValues.{number_in}
-use Rattle.message_tables.specs.Tables.{Cell, Message, Said, Tag, ◌>>=◌, said_at, text_of}
-use Rattle.message_tables.specs.Tables.{value_at}
+use Rattle.message_tables.specs.Tables.{Cell, Message, Said, Tag, ◌>>=◌, said_at, text_of, value_at}
 use Rattle.order_meaning.specs.declared.refusal.Refusal.{Refusal}
 use Rattle.value_kinds.specs.ValueKind.{Id, Text, spelling}
 use Rattle.row_values.specs.Amounts.{number_if}
 use Rattle.row_values.specs.Kinds.{Value, judge, verdict_of}
+use Rattle.sound_laws.proofs.Each.{not_true}
 use Rattle.sound_laws.proofs.Good.{held}
 use Rattle.sound_laws.proofs.ReadSound.{IsClearField}
 use Rattle.report_rules.specs.Down.{IsId}
@@ -35,9 +34,6 @@ pub record IsShortId (id : List ℕ) : Type 0 where
   pub is : IsId id
   pub short : length id ≤ most_id
 
-at_most : (n most : ℕ) → nat_le n most ≡ true → n ≤ most
-at_most n most test = grind (arith, nat_tests)
-
 module _ (fields : List Field) where
   id_of : (bytes : List ℕ) → HasNoSoh bytes
       → IfSome (text_of (judge fields (Value Id) bytes)) IsShortId
@@ -51,7 +47,7 @@ module _ (fields : List Field) where
           → IfSome (text_of (verdict_of (if t then Ok (Some (b ∷ bs)) else Err Range))) IsShortId
       by true e same = record {
         is = (same, clear);
-        short = at_most (length (b ∷ bs)) 128 e;
+        short = leb-true (length (b ∷ bs)) 128 e;
       }
       by false e same = tt
 
@@ -102,9 +98,8 @@ number_word value = by (is_in_range 1 10 (length value)) (list_all is_ascii_digi
     by : (a b c : Bool) → nat_le (digits_value 10 value) 1_000_000_000 ≡ c
         → IsWord (if a && (b && c) then Some (digits_value 10 value) else None)
     by true true true e =
-        let most = at_most (digits_value 10 value) 1_000_000_000 e in omega (arith, most)
-    by true true false e = tt
-    by true false c e = tt
+        let most = leb-true (digits_value 10 value) 1_000_000_000 e in omega (arith, most)
+    by true b c e = tt
     by false b c e = tt
 
 pub numbers_words : (cells : List Cell) (tag : ℕ) → IsWord (number_if cells tag)
@@ -138,11 +133,7 @@ told_well m id text = record {
 
 first_clear : (fields : List Field) → AreFields None fields → HasNoSoh (first_value fields)
 first_clear [] good = refl
-first_clear (f ∷ fs) good = by (list_any is_soh f.1) good.0.value
-  where
-    by : (b : Bool) → not b ≡ true → b ≡ false
-    by false e = refl
-    by true e = absurd cc
+first_clear (f ∷ fs) good = not_true (list_any is_soh f.1) good.0.value
 
 -- THE TYPE of a body has no SOH.
 pub type_clear : (body : List ℕ) → HasNoSoh (type_of body)

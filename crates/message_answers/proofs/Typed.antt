@@ -116,14 +116,12 @@ typed_rest letter rest is = by (has_soh rest) refl
 -- A body that begins with `35=` and whose type is one letter begins with that letter's field.
 pub typed : (letter : ℕ) (body : List ℕ) → take 3 body ≡ codes "35=" → type_of body ≡ letter ∷ []
     → has_letter letter body ≡ true
-typed letter [] begins is = absurd cc
-typed letter (a ∷ []) begins is = absurd cc
-typed letter (a ∷ b ∷ []) begins is = absurd cc
 typed letter (a ∷ b ∷ c ∷ rest) begins is =
     let same : (a ∷ b ∷ c ∷ rest) ≡ 51 ∷ 53 ∷ 61 ∷ rest =
     ap (λ (front : List ℕ). front ++ rest) begins in
     subst (λ (body : List ℕ). has_letter letter body ≡ true) (sym same)
     (typed_rest letter rest (ap type_of (sym same) ∙ is))
+typed letter body begins is = absurd cc
 
 -- And the other way round, for a letter that is no SOH.
 type_of_front : (letter : ℕ) (more : List ℕ) → (letter == 1) ≡ false
@@ -141,10 +139,6 @@ type_is letter body other has = by body
   where
     by : (bytes : List ℕ) → take 5 bytes ≡ codes "35=" ++ letter ∷ 1 ∷ []
         → type_of bytes ≡ letter ∷ []
-    by [] is = absurd cc
-    by (a ∷ []) is = absurd cc
-    by (a ∷ b ∷ []) is = absurd cc
-    by (a ∷ b ∷ c ∷ []) is = absurd cc
-    by (a ∷ b ∷ c ∷ d ∷ []) is = absurd cc
     by (a ∷ b ∷ c ∷ d ∷ e ∷ more) is =
         ap (λ (front : List ℕ). type_of (front ++ more)) is ∙ type_of_front letter more other
+    by bytes is = absurd (cc is)

@@ -2,9 +2,7 @@ use Rattle.std.proofs.Common.{rules, ◌≡◌, ℕ, List, None, option_map, sub
 use Rattle.std.specs.Prelude.{IfOk}
 use Rattle.row_values.specs.Kinds.{resend_of}
 use Rattle.message_answers.specs.Seen.{IsForwarded}
-use Rattle.message_answers.proofs.Reported.{answers, is_good, joins, one_byte, original_said}
-use Rattle.message_answers.proofs.Reported.{refused}
-use Rattle.message_answers.proofs.Reported.{sent}
+use Rattle.message_answers.proofs.Reported.{is_good, one_byte, original_said, refused, sent}
 use Rattle.message_answers.proofs.reports.sent.Goals as goal
 
 pub put_down-requires : goal.put_down-requires
@@ -15,54 +13,26 @@ pub goes_on-requires : goal.goes_on-requires
 goes_on-requires c = one_byte c.args.known.now c.args.asked.now c.requires.split c.requires.side
     c.requires.other c.args.fields.now c.requires.good
 
-pub returns-in-Ok-clause-answer : goal.returns-in-Ok-clause-answer
-returns-in-Ok-clause-answer c =
+pub returns-in-Ok : goal.returns-in-Ok
+returns-in-Ok c =
     let of = original_said c.args.known.now.chains.now c.order_id.result.now _ _
     c.order_id.ensures c.orig_of-original.ensures in
     let same : c.deref.result.now ≡ c.put_down.new.out.items = search rules in
     let P : List ℕ → Type 0 = λ l. IfOk c.goes_on.result (IsForwarded c.args.asked.now
     c.args.asked.now.msg_type.now (resend_of c.args.fields.now) l None) in
-    answers c.args.known.now c.args.asked.now c.requires.split c.requires.side c.requires.other
-    c.args.fields.now c.requires.good (option_map (λ id. id.now) c.orig_of-original.result) of
-    c.goes_on.result (sent c.args.known.now c.args.asked.now c.requires.split c.requires.side
+    let is = sent c.args.known.now c.args.asked.now c.requires.split c.requires.side
     c.requires.other c.args.fields.now c.requires.good
     (option_map (λ id. id.now) c.orig_of-original.result) of c.goes_on.result
     _ c.put_down.new.out.items c.new-content.ensures.items c.in-Ok.ensures.ok
-    (subst P same c.goes_on.ensures.forwarded))
+    (subst P same c.goes_on.ensures.forwarded) in
+    record { answer = is.0; fit = c.goes_on.ensures.fit; item = is.1 }
 
-pub returns-clause-answer : goal.returns-clause-answer
-returns-clause-answer c =
+pub returns : goal.returns
+returns c =
     let of = original_said c.args.known.now.chains.now c.order_id.result.now _ _
     c.order_id.ensures c.orig_of-original.ensures in
-    answers c.args.known.now c.args.asked.now c.requires.split c.requires.side c.requires.other
-    c.args.fields.now c.requires.good (option_map (λ id. id.now) c.orig_of-original.result) of
-    c.lacking.result (refused c.args.known.now c.args.asked.now c.requires.split c.requires.side
+    let is = refused c.args.known.now c.args.asked.now c.requires.split c.requires.side
     c.requires.other c.args.fields.now c.requires.good
     (option_map (λ id. id.now) c.orig_of-original.result) of c.lacking.result c.in-Err.lack
-    c.in-Err.ensures.lack c.lacking.ensures.lacking)
-
-pub returns-in-Ok-clause-item : goal.returns-in-Ok-clause-item
-returns-in-Ok-clause-item c =
-    let of = original_said c.args.known.now.chains.now c.order_id.result.now _ _
-    c.order_id.ensures c.orig_of-original.ensures in
-    let same : c.deref.result.now ≡ c.put_down.new.out.items = search rules in
-    let P : List ℕ → Type 0 = λ l. IfOk c.goes_on.result (IsForwarded c.args.asked.now
-    c.args.asked.now.msg_type.now (resend_of c.args.fields.now) l None) in
-    joins c.args.known.now c.args.asked.now c.requires.split c.requires.side c.requires.other
-    c.args.fields.now c.requires.good (option_map (λ id. id.now) c.orig_of-original.result) of
-    c.goes_on.result (sent c.args.known.now c.args.asked.now c.requires.split c.requires.side
-    c.requires.other c.args.fields.now c.requires.good
-    (option_map (λ id. id.now) c.orig_of-original.result) of c.goes_on.result
-    _ c.put_down.new.out.items c.new-content.ensures.items c.in-Ok.ensures.ok
-    (subst P same c.goes_on.ensures.forwarded))
-
-pub returns-clause-item : goal.returns-clause-item
-returns-clause-item c =
-    let of = original_said c.args.known.now.chains.now c.order_id.result.now _ _
-    c.order_id.ensures c.orig_of-original.ensures in
-    joins c.args.known.now c.args.asked.now c.requires.split c.requires.side c.requires.other
-    c.args.fields.now c.requires.good (option_map (λ id. id.now) c.orig_of-original.result) of
-    c.lacking.result (refused c.args.known.now c.args.asked.now c.requires.split c.requires.side
-    c.requires.other c.args.fields.now c.requires.good
-    (option_map (λ id. id.now) c.orig_of-original.result) of c.lacking.result c.in-Err.lack
-    c.in-Err.ensures.lack c.lacking.ensures.lacking)
+    c.in-Err.ensures.lack c.lacking.ensures.lacking in
+    record { answer = is.0; fit = c.lacking.ensures.fit; item = is.1 }

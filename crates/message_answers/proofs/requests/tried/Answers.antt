@@ -1,13 +1,14 @@
-use Rattle.std.proofs.Common.{ℕ, List, [], subst, sym}
+use Rattle.std.proofs.Common.{ℕ, List, [], None, subst, sym}
 use Rattle.request_rules.specs.Good.{said}
 use Rattle.request_rules.specs.Put.{IsPut}
 use Rattle.message_answers.specs.Seen.{joined}
-use Rattle.message_answers.proofs.Requested.{request_sent, request_refused, type_is}
+use Rattle.message_answers.proofs.ReadShapes.{of_request, type_by}
+use Rattle.message_answers.proofs.Requested.{request_sent, request_refused}
 use Rattle.message_answers.proofs.requests.tried.Goals as goal
 
 pub sent-requires-clause-typed : goal.sent-requires-clause-typed
 sent-requires-clause-typed c =
-    type_is c.args.asked.now.msg_type.now c.args.asked.now.split.now.fields _
+    type_by (of_request c.args.asked.now.msg_type.now) c.args.asked.now.split.now.fields None
     (said c.args.good.now) c.requires.read.read
 
 pub returns-in-Ok-clause-spelled : goal.returns-in-Ok-clause-spelled
