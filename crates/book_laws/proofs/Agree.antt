@@ -218,12 +218,10 @@ module _ (J : List Entry) (goes : Each Goes [] J) where
               same-given far x y i j out out2 (in-head out [] (given far x) f.far_given) (in-head
               out2 [] (given far y) g.far_given)
               (sym (is-equal k out.number na) ∙ is-equal k out2.number nb)
-          go None None c d ec ed na nb = absurd (cc na)
-          go None (Some k) None d ec ed na nb = absurd (cc na)
-          go None (Some k) (Some c) None ec ed na nb = absurd (cc nb)
           go None (Some k) (Some c) (Some d) ec ed na nb =
               once-id x y i j m out m2 out2 f g k (ec ∙ ap Some (sym (same-bytes k c na))) (ed
               ∙ ap Some (sym (same-bytes k d nb)))
+          go None id c d ec ed na nb = absurd cc
 
       -- a refusal that nothing was said about names no out, earlier or later
       names-nothing : (y : Entry) → In y J → (h : Here y) → KeepsRefusals far h.past y
@@ -244,8 +242,6 @@ module _ (J : List Entry) (goes : Each Goes [] J) where
               before.2 (in-head out [] (given far e) f.far_given) (o.2
               ∙ is-equal k out.number na) in
               named-earlier (subst (λ z. In z h.past) same before.1) is
-          go None None c ea eid ec na is = absurd (cc na)
-          go None (Some k) None ea eid ec na is = absurd (cc na)
           go None (Some k) (Some c) ea eid ec na is =
               elim (h.beside e i) [
                 | Earlier q ↦ named-earlier q is
@@ -254,6 +250,7 @@ module _ (J : List Entry) (goes : Each Goes [] J) where
                     n.from.takes) refusal ea k eid out (in-head out [] (given far e) f.far_given)
                     (ec ∙ ap Some (sym (same-bytes k c na)))
               ]
+          go None id c ea eid ec na is = absurd (cc na)
 
       -- each other entry answers the message off exactly where it takes a refusal of its out
       flags : (e : Entry) → In e J → (m out : Heard) → Forwards near far e m out → (x : Entry)
@@ -355,10 +352,13 @@ module _ (J : List Entry) (goes : Each Goes [] J) where
       abbrev stays_there : Heard → Bool
       stays_there out = counts near out && not (is_refused Other out)
 
+      -- what stays of what an entry took is what stays of what it gave
+      abbrev IsTwin : Entry → Type 0
+      IsTwin e = Twins (Carries near) (filter stays (option_to_list (taken near e)))
+          (filter stays_there (given far e))
+
       nothing : (e : Entry) → ((m : Heard) → taken near e ≡ Some m → stays m ≡ false)
-          → ((o : Heard) → In o (given far e) → stays_there o ≡ false)
-          → Twins (Carries near) (filter stays (option_to_list (taken near e))) (filter
-          stays_there (given far e))
+          → ((o : Heard) → In o (given far e) → stays_there o ≡ false) → IsTwin e
       nothing e none-took none-given =
           subst (λ l. Twins (Carries near) (filter stays (option_to_list (taken near e))) l) (sym
           (filter-none stays_there (given far e) none-given))
@@ -371,8 +371,7 @@ module _ (J : List Entry) (goes : Each Goes [] J) where
               (none-took m is)) tt
 
       -- what one entry gives to both lists
-      step : (e : Entry) → In e J → Twins (Carries near) (filter stays (option_to_list (taken near
-          e))) (filter stays_there (given far e))
+      step : (e : Entry) → In e J → IsTwin e
       step e i = elim (shown e i) [
         | Own h d keeps ↦ own h d
         | Far h d keeps ↦ other h d
@@ -419,9 +418,7 @@ module _ (J : List Entry) (goes : Each Goes [] J) where
           counts-taken m takes none x is = no-counts near x (is_answered_off Near.took x) (ap
               (counts near) (sym (same-some m x (taken near e) takes is)) ∙ none)
 
-          own : (h : Here e) → DoesFor h.past near far e
-              → Twins (Carries near) (filter stays (option_to_list (taken near e))) (filter
-              stays_there (given far e))
+          own : (h : Here e) → DoesFor h.past near far e → IsTwin e
           own h (ItForwards m out f) =
               subst (λ o. Twins (Carries near) (filter stays (option_to_list o)) (filter
               stays_there (given far e))) (sym f.from.takes)
@@ -439,9 +436,7 @@ module _ (J : List Entry) (goes : Each Goes [] J) where
           own h (ItSaysNothing m n) = nothing e (counts-taken m n.from.takes n.passed) (none-given
               n.far_given)
 
-          other : (h : Here e) → DoesFor h.past far near e
-              → Twins (Carries near) (filter stays (option_to_list (taken near e))) (filter
-              stays_there (given far e))
+          other : (h : Here e) → DoesFor h.past far near e → IsTwin e
           other h (ItForwards m out f) = nothing e (none-taken f.from.only) (none-given
               f.near_given)
           other h (ItAnswers m off a) = nothing e (none-taken a.from.only) (reject-given off

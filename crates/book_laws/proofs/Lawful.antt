@@ -1,5 +1,5 @@
 -- All that both books need of the entries of a lawful journal.
-use Rattle.std.proofs.Common.{◌≡◌, ◌≤◌, ◌⊎◌, List, [], ◌∷◌, ◌++◌, Option, Some, None, IfSome}
+use Rattle.std.proofs.Common.{◌≡◌, ◌≤◌, ◌⊎◌, List, [], ◌∷◌, ◌++◌, Option, Some, IfSome}
 use Rattle.std.proofs.Common.{refl, sym, ap, subst, ◌∙◌, inl, inr}
 use Rattle.std.specs.List.{AllByRecursion}
 use Rattle.order_meaning.specs.declared.Side.{Side}
@@ -40,9 +40,7 @@ numbers_last next (x ∷ before) e = numbers_last x.next before e
 
 body_of : (t : Option Took) (took : Took) → IfSome t (λ x. IsBody x.raw) → t ≡ Some took
     → IsBody took.raw
-body_of None took is same = absurd (cc same)
-body_of (Some x) took is same =
-    let one : x ≡ took = cc same in subst (λ (y : Took). IsBody y.raw) one is
+body_of t took is same = subst (λ (o : Option Took). IfSome o (λ x. IsBody x.raw)) same is
 
 module _ (makes : DecisionsMake) (names : Names) where
   -- what a decided entry is, where the sessions before it have these numbers

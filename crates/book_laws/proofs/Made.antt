@@ -349,16 +349,7 @@ module _ (makes : DecisionsMake) (hears : AnswersAreHeard) (refusals : RefusalsA
 
   bound_of : (t : Option Took) (took : Took) → IfSome t IsTook → t ≡ Some took
       → took.number ≤ MAX_NUMBER
-  bound_of None took is same = absurd (cc same)
-  bound_of (Some x) took is same =
-      let one : x ≡ took = cc same in subst (λ (y : Took). y.number ≤ MAX_NUMBER) one is.below
-
-  number_of : (t : Option Took) (took : Took) → IsNumbered t → t ≡ Some took
-      → number_in (fields_of took.raw) ≡ Some took.number
-  number_of None took is same = absurd (cc same)
-  number_of (Some x) took is same =
-      let one : x ≡ took = cc same in
-      subst (λ (y : Took). number_in (fields_of y.raw) ≡ Some y.number) one is
+  bound_of t took is same = (subst (λ (o : Option Took). IfSome o IsTook) same is).below
 
   by_made : (active : Bool) (asked : Option Asked) (words : Option Words)
       → ((a : Asked) → asked ≡ Some a → IsApplication a) → Answers before active asked words
@@ -366,13 +357,13 @@ module _ (makes : DecisionsMake) (hears : AnswersAreHeard) (refusals : RefusalsA
   by_made active asked words app answer numbered_took (Answering took is about are) =
       answered active took (record {
         is = is;
-        numbered = number_of e.took took numbered_took is;
+        numbered = subst IsNumbered is numbered_took;
         no_reset = no_reset took.side (type_of took.raw) (fields_of took.raw)
             (app (asked_about took) about);
       }) (bound_of e.took took bounds.took is) words
       (subst (λ (o : Option Asked). Answers before active o words) about answer) are
   by_made active asked words app answer numbered_took (Rejects took n tag reason is faulty outs) =
-      rejected took n tag reason is (number_of e.took took numbered_took is)
+      rejected took n tag reason is (subst IsNumbered is numbered_took)
       (bound_of e.took took bounds.took is) faulty outs
   by_made active asked words app answer numbered_took (Breaking is) = absurd (unbroken is)
   by_made active asked words app answer numbered_took (Rests session admins) =

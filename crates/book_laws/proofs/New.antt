@@ -62,16 +62,7 @@ module _ (alike : BodiesAreReadAlike) (next : Next) (e : Entry) where
   pub goes_by : (took : Took) → e.took ≡ Some took → TookGoesOn taking_of next e
       → Takes (taking_of took.side took.raw) took.number (next_in took.side next)
       (next_in took.side e.next)
-  goes_by took is goes = by e.took is goes
-    where
-      by : (t : Option Took) → t ≡ Some took → goes_as next e t
-          → Takes (taking_of took.side took.raw) took.number (next_in took.side next)
-          (next_in took.side e.next)
-      by None is goes = absurd (cc is)
-      by (Some x) is goes =
-          let one : x ≡ took = cc is in
-          subst (λ (y : Took). Takes (taking_of y.side y.raw) y.number (next_in y.side next)
-          (next_in y.side e.next)) one goes
+  goes_by took is goes = subst (goes_as next e) is goes
 
   pub numbered_by : (took : Took) → e.took ≡ Some took → IsNumbered e.took
       → HasNumber took.number (read_body took.raw)

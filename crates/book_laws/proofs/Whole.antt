@@ -2,7 +2,7 @@
 use Rattle.std.proofs.Common.{◌≡◌, ◌≤◌, ◌<◌, ◌⊎◌, ℕ, zero, suc, ◌+◌, ◌-◌, Bool, true, false, List}
 use Rattle.std.proofs.Common.{[], ◌∷◌, ◌++◌, length, map, refl, sym, ◌∙◌, ap, subst, arith}
 use Rattle.std.proofs.Common.{Option, Some, None, inl, inr, if◌then◌else◌}
-use Rattle.std.specs.Prelude.{not, cond, filter, slice_get, IsTrue, IsSomeAnd, is_some}
+use Rattle.std.specs.Prelude.{not, cond, filter, slice_get, IsTrue, is_some}
 use Rattle.std.specs.List.{AllByRecursion, cons_option, flat_map}
 use Rattle.std.specs.Option.{option_map}
 use Rattle.std.proofs.lemmas.List.{length-append, length-map, map-append, take_all}
@@ -24,6 +24,7 @@ use Rattle.life_laws.specs.Forms.{Placed, all_placed, placed_at}
 use Rattle.life_laws.specs.Justified.{IsJustified, IsSublist, raw_of, tooks_of}
 use Rattle.life_laws.specs.Receiver.{AreSent, is_administrative, message_of_out, read_body}
 use Rattle.life_laws.specs.Taken.{Message, Read, GapFill, Reset, Other, TakesInOrder, taken_from}
+use Rattle.life_laws.proofs.Grown.{some_and}
 use Rattle.book_laws.specs.Heard.{Heard, Plain}
 use Rattle.book_laws.specs.HeardLaws.{BodiesAreReadAlike, HasNumber}
 use Rattle.book_laws.proofs.Session.{plain_type}
@@ -38,11 +39,6 @@ use Rattle.book_laws.proofs.Sides.{far_side, own_side}
 use Rattle.book_laws.proofs.Tooks.{took_far, took_near, took_none}
 
 -- ---- lists
-
-some_and : {A : Type 0} (o : Option A) (P : A → Type 0) → IsSomeAnd o P
-    → (a : A) × (o ≡ Some a) × P a
-some_and None P is = absurd is
-some_and (Some a) P is = (a, refl, is)
 
 numbered_get : (l : List Message) (n i : ℕ) (c : Message) → AreNumbered n l
     → slice_get l i ≡ Some c → c.number ≡ n + i
@@ -150,28 +146,13 @@ module _ (side : Side) where
 
   stays_none : (next : Next) (e : Entry) → e.took ≡ None → InStays side next e
       → next_in side e.next ≡ next_in side next
-  stays_none next e is stays = by e.took is stays
-    where
-      by : (t : Option Took) → t ≡ None → stays_by next e t
-          → next_in side e.next ≡ next_in side next
-      by None is stays = stays
-      by (Some took) is stays = absurd (cc is)
+  stays_none next e is stays = subst (stays_by next e) is stays
 
   stays_far : (next : Next) (e : Entry) (took : Took) → e.took ≡ Some took
       → is_side side took.side ≡ false → InStays side next e
       → next_in side e.next ≡ next_in side next
-  stays_far next e took is apart stays = by e.took is stays
-    where
-      by_side : (b : Bool) → b ≡ false → stays_at next e b → next_in side e.next ≡ next_in side next
-      by_side true apart stays = absurd (cc apart)
-      by_side false apart stays = stays
-
-      by : (t : Option Took) → t ≡ Some took → stays_by next e t
-          → next_in side e.next ≡ next_in side next
-      by None is stays = absurd (cc is)
-      by (Some x) is stays =
-          let one : x ≡ took = cc is in
-          by_side (is_side side x.side) (ap (λ (y : Took). is_side side y.side) one ∙ apart) stays
+  stays_far next e took is apart stays =
+      subst (stays_at next e) apart (subst (stays_by next e) is stays)
 
   module _ (alike : BodiesAreReadAlike) (messages : List Message)
       (numbered : AreNumbered 1 messages) where

@@ -28,6 +28,11 @@ if_yes c x y is = ap (λ b. if b then x else y) is
 pub if_no : {A : Type 0} (c : Bool) (x y : A) → c ≡ false → (if c then x else y) ≡ y
 if_no c x y is = ap (λ b. if b then x else y) is
 
+pub some_and : {A : Type 0} (o : Option A) (P : A → Type 0) → IsSomeAnd o P
+    → (a : A) × (o ≡ Some a) × P a
+some_and None P is = absurd is
+some_and (Some a) P is = (a, refl, is)
+
 pub own_side : (side : Side) → is_side side side ≡ true
 own_side Client = refl
 own_side Venue = refl
@@ -88,12 +93,9 @@ module _ (side : Side) where
 
   pub some_grows : (P : Placed → Type 0) (xs ys : List Entry) (n : ℕ)
       → IsSomeAnd (placed side n xs) P → IsSomeAnd (placed side n (xs ++ ys)) P
-  some_grows P xs ys n h = go (placed side n xs) refl h
-    where
-      go : (o : Option Placed) → placed side n xs ≡ o → IsSomeAnd o P
-          → IsSomeAnd (placed side n (xs ++ ys)) P
-      go None is h = absurd h
-      go (Some p) is h = subst (λ o. IsSomeAnd o P) (sym (placed_grows xs ys n p is)) h
+  some_grows P xs ys n h =
+      let p = some_and (placed side n xs) P h in
+      subst (λ o. IsSomeAnd o P) (sym (placed_grows xs ys n p.0 p.1)) p.2
 
   pub form_grows : (xs ys : List Entry) (f : Form) → IsForm xs side f → IsForm (xs ++ ys) side f
   form_grows xs ys (First p) is = placed_grows xs ys p.out.number p is

@@ -1,10 +1,9 @@
 -- Of frames that show outs of a journal, a receiver takes the committed ones in order.
 use Rattle.std.proofs.Common.{◌≡◌, ℕ, zero, suc, ◌+◌, ◌-◌, ◌<◌, ◌≤◌, Bool, true, false, List, []}
 use Rattle.std.proofs.Common.{◌∷◌, ◌++◌, take, refl, sym, ◌∙◌, ap, subst, arith, append_assoc}
-use Rattle.std.proofs.Common.{append-nil, Some, None, inl, inr}
+use Rattle.std.proofs.Common.{append-nil, Some, inl, inr}
 use Rattle.std.specs.Prelude.{◌==◌, not, if◌then◌else◌, slice_get, map, filter, cond, IsTrue}
 use Rattle.std.specs.Prelude.{IsSomeAnd}
-use Rattle.std.specs.declared.option.Option.{Option}
 use Rattle.std.proofs.lemmas.Bool.{cases_eq}
 use Rattle.std.proofs.lemmas.Bool.Decides.{nat_tests}
 use Rattle.order_meaning.specs.declared.Side.{Side}
@@ -13,7 +12,7 @@ use Rattle.pair_entries.specs.declared.entry.Entry.{Entry}
 use Rattle.life_laws.specs.Forms.{Placed, all_placed, placed, Form, First, Again, Fill, AreForms}
 use Rattle.life_laws.specs.Taken.{Message, Read, GapFill, Other, Taking, take_more, read_of_form}
 use Rattle.life_laws.specs.Taken.{committed_below}
-use Rattle.life_laws.proofs.Grown.{if_yes, if_no, at_place}
+use Rattle.life_laws.proofs.Grown.{if_yes, if_no, at_place, some_and}
 
 module _ (message_of : Out → Message) where
   abbrev kept : List Placed → List Message
@@ -63,15 +62,11 @@ module _ (message_of : Out → Message) where
     below-fill (suc count) from admin =
         let more = below-fill count from (λ n low high. admin n low (omega (arith, high))) in
         let is : from + suc count ≡ (from + count) + 1 = omega arith in
-        ap below is ∙ go (placed side (from + count) entries) refl (admin (from + count)
-        (omega arith) (omega arith)) ∙ more
-      where
-        go : (o : Option Placed) → placed side (from + count) entries ≡ o
-            → IsSomeAnd o (λ p. IsTrue p.out.admin) → below ((from + count) + 1)
-            ≡ below (from + count)
-        go None is h = absurd h
-        go (Some p) is h = below-step (from + count) p is
-            ∙ ap (λ c. below (from + count) ++ adds c p) h ∙ append-nil (below (from + count))
+        let p = some_and (placed side (from + count) entries) (λ p. IsTrue p.out.admin)
+        (admin (from + count) (omega arith) (omega arith)) in
+        ap below is ∙ below-step (from + count) p.0 p.1
+        ∙ ap (λ c. below (from + count) ++ adds c p.0) p.2 ∙ append-nil (below (from + count))
+        ∙ more
 
     module _ (read : List ℕ → Read) (numbers : (out : Out)
         → (message_of out).number ≡ out.number) where

@@ -1,5 +1,5 @@
 mod Worked
-mod Grown
+pub mod Grown
 mod InOrder
 mod FirstHalf
 mod Line

@@ -2,9 +2,8 @@
 use Rattle.std.proofs.Common.{◌≡◌, ℕ, ◌+◌, ◌-◌, ◌<◌, ◌≤◌, Bool, true, false, List, [], ◌∷◌, ◌++◌}
 use Rattle.std.proofs.Common.{length, refl, sym, ◌∙◌, ap, subst, arith, append-nil, length-append}
 use Rattle.std.proofs.Common.{Some, None, ◌^◌, ◌||◌, get_or, codes}
-use Rattle.std.specs.Prelude.{◌==◌, IsSomeAnd, Ok, unwrap_or}
+use Rattle.std.specs.Prelude.{◌==◌, Ok, unwrap_or}
 use Rattle.std.specs.List.{list_any}
-use Rattle.std.specs.declared.option.Option.{Option}
 use Rattle.std.proofs.lemmas.Bool.{le-leb}
 use Rattle.std.proofs.lemmas.Bool.Decides.{nat_tests}
 use Rattle.order_meaning.specs.declared.Side.{Side}
@@ -47,7 +46,7 @@ use Rattle.life_laws.specs.Receiver.{is_in_header, behind_header, is_administrat
 use Rattle.life_laws.specs.Receiver.{message_by, read_as, read_body, message_of_out, IsSent}
 use Rattle.life_laws.specs.Receiver.{AreSent}
 use Rattle.life_laws.specs.Laws.{WhatIsSentIsRead}
-use Rattle.life_laws.proofs.Grown.{if_no, at_place}
+use Rattle.life_laws.proofs.Grown.{if_no, at_place, some_and}
 use Rattle.life_laws.proofs.Repeats.{numbered_at}
 
 -- ---- values that are read back
@@ -243,15 +242,6 @@ module _ (names : Names) (side : Side) (entries : List Entry) (sent : AreSent na
   form_body (Again p now) = out_body names side p now true
   form_body (Fill from to first now) = gap_body names side from (to - 1 + 1) first now
 
-  some_placed : (n : ℕ) (P : Placed → Type 0) → IsSomeAnd (placed side n entries) P
-      → (p : Placed) × (placed side n entries ≡ Some p)
-  some_placed n P is = go (placed side n entries) refl is
-    where
-      go : (o : Option Placed) → placed side n entries ≡ o → IsSomeAnd o P
-          → (p : Placed) × (placed side n entries ≡ Some p)
-      go None at h = absurd h
-      go (Some p) at h = (p, at)
-
   number_at : (n : ℕ) (p : Placed) → placed side n entries ≡ Some p → p.out.number ≡ n
   number_at n p is =
       let here = at_place (all_placed side entries) n p is in
@@ -269,8 +259,9 @@ module _ (names : Names) (side : Side) (entries : List Entry) (sent : AreSent na
   filled : (from to first now : ℕ) → IsForm entries side (Fill from to first now)
       → Filled from to first now
   filled from to first now is =
-      let a = some_placed from _ (is.1 from (omega arith) is.0) in
-      let b = some_placed (to - 1) _ (is.1 (to - 1) (omega (arith, is.0)) (omega (arith, is.0))) in
+      let a = some_and (placed side from entries) _ (is.1 from (omega arith) is.0) in
+      let b = some_and (placed side (to - 1) entries) _
+      (is.1 (to - 1) (omega (arith, is.0)) (omega (arith, is.0))) in
       let s = sent from a.0 a.1 in
       let t = sent (to - 1) b.0 b.1 in
       let m = number_at from a.0 a.1 in
