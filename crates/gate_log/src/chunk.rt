@@ -1,8 +1,9 @@
 //! Bytes of a disk that are read at once, and the records among them.
 
 ghost use Rattle.std.specs.Prelude.{◌≡◌, ◌≢◌, ◌+◌, ◌-◌, ◌≤◌, ℕ, List, [], length, drop, min};
-ghost use Rattle.std.specs.Prelude.{Err, IfOk, IfSome, OnOk, OnErr, true, false, vec_capacity};
+ghost use Rattle.std.specs.Prelude.{Ok, Err, IfOk, IfSome, OnOk, OnErr, true, false, vec_capacity};
 ghost use Rattle.gate_log.specs.Log.{OnlyReads, HasFaultCause, ReadsPayload, HasNoPayload};
+ghost use Rattle.gate_log.specs.Records.{IsShut};
 ghost use Rattle.gate_log.specs.Scan.{IsHead};
 ghost use Rattle.gate_log.specs.Chunk.{StandsAt, IsFront, IsOf, IsOfAny, BeginsWith};
 
@@ -154,7 +155,30 @@ impl Chunk {
     }
 
     /// Finds the payload of the record at this place, which is read where not all of it is among
-    /// them: 65,541 bytes in one call.
+    /// them: 65,541 bytes in one call. False where none stands there.
+    ///
+    /// # Errors
+    /// `DiskFault` only where the disk's count of faults rose.
+    pub fn seek<D: Disk>(&mut self, disk: &mut D, place: u64) -> Result<bool, LogError>
+        requires place { place ≤ MAX_DISK }
+        requires of { IsOf (D.bytes disk.old) self.old }
+        ensures of { IsOf (D.bytes disk.new) self.new }
+        ensures found { result ≡ Ok true → IfSome (D.bytes disk.old) (λ b.
+            BeginsWith (drop place b) self.new.payload) }
+        ensures none { result ≡ Ok false → HasNoPayload (D.bytes disk.old) place }
+        ensures only_read { OnlyReads D.bytes D.image disk.old disk.new }
+        ensures reads { D.reads disk.new ≤ D.reads disk.old + 1 }
+        ensures cause { HasFaultCause (D.faults disk.old) (D.faults disk.new) result }
+        ensures only { OnErr result (result ≡ Err LogError.DiskFault) }
+    {
+        if self.find(place) {
+            return Ok(true);
+        }
+        self.fill(disk, place)?;
+        Ok(self.find(place))
+    }
+
+    /// The same, of a record that has to stand there.
     ///
     /// # Errors
     /// `Foreign` only where no record of the disk stands there; `DiskFault` only where the disk's
@@ -171,12 +195,9 @@ impl Chunk {
         ensures no_memory { (result ≡ Err LogError.NoMemory) → ⊥ }
         ensures foreign { (at : ℕ) → result ≡ Err (LogError.Foreign at) →
             HasNoPayload (D.bytes disk.old) place }
+        ensures foreign_at { (at : ℕ) → result ≡ Err (LogError.Foreign at) → at ≡ place }
     {
-        if self.find(place) {
-            return Ok(());
-        }
-        self.fill(disk, place)?;
-        if self.find(place) {
+        if self.seek(disk, place)? {
             return Ok(());
         }
         Err(LogError::Foreign { at: place })
@@ -193,8 +214,7 @@ impl Chunk {
             IsHead (drop at b) head)) }
         ensures only_read { OnlyReads D.bytes D.image disk.old disk.new }
         ensures cause { HasFaultCause (D.faults disk.old) (D.faults disk.new) result }
-        ensures only { (result ≡ Err LogError.Full) → ⊥ }
-        ensures not_foreign { (at : ℕ) → (result ≡ Err (LogError.Foreign at)) → ⊥ }
+        ensures only { OnErr result (result ≡ Err LogError.DiskFault) }
     {
         let there = self.behind(at);
         if there.len() >= HEAD_LEN {
@@ -202,5 +222,22 @@ impl Chunk {
         }
         self.fill(disk, at)?;
         Ok(head_of(&self.bytes))
+    }
+
+    /// Whether a gate that is not open stands at this place, which is read where it is not among
+    /// them.
+    ///
+    /// # Errors
+    /// `DiskFault` only where the disk's count of faults rose.
+    pub fn is_shut<D: Disk>(&mut self, disk: &mut D, at: u64) -> Result<bool, LogError>
+        requires { IsOf (D.bytes disk.old) self.old }
+        ensures of { OnOk result (IsOf (D.bytes disk.new) self.new) }
+        ensures shut { result ≡ Ok true → IfSome (D.bytes disk.old) (λ b. IsShut (drop at b)) }
+        ensures only_read { OnlyReads D.bytes D.image disk.old disk.new }
+        ensures cause { HasFaultCause (D.faults disk.old) (D.faults disk.new) result }
+        ensures only { OnErr result (result ≡ Err LogError.DiskFault) }
+    {
+        let head = self.head_at(disk, at)?;
+        Ok(matches!(head, Head::Shut))
     }
 }

@@ -120,8 +120,8 @@ fn write_birth<D: Disk>(disk: &mut D, len: u64, birth: &[u8], staged: &[u8]) -> 
 }
 
 impl Log {
-    /// The log that a walk over a disk found.
-    fn of(alloc: Global, count: u64, end: u64) -> Log
+    /// The log of so many records, whose closing gate stands at this place.
+    pub fn of(alloc: Global, count: u64, end: u64) -> Log
         requires { (1 ≤ count) × (count ≤ end) × (end < MAX_DISK) }
         ensures { result ≡ record { end = end; count = count; broken = false; spare = 0 } }
     {
@@ -309,6 +309,7 @@ impl Log {
         ensures only { (result ≡ Err LogError.Full) → ⊥ }
         ensures foreign { (at : ℕ) → result ≡ Err (LogError.Foreign at) →
             HasNoPayload (D.bytes disk.old) place }
+        ensures foreign_at { (at : ℕ) → result ≡ Err (LogError.Foreign at) → at ≡ place }
     {
         let answer = read_payload(disk, place, out);
         if answer.is_err() {

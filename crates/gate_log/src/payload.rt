@@ -55,6 +55,7 @@ pub(crate) fn read_payload<D: Disk>(
     ensures only { (result ≡ Err LogError.Full) → ⊥ }
     ensures foreign { (at : ℕ) → result ≡ Err (LogError.Foreign at) →
         HasNoPayload (D.bytes disk.old) place }
+    ensures foreign_at { (at : ℕ) → result ≡ Err (LogError.Foreign at) → at ≡ place }
 {
     read_front(disk, place, CHUNK_LEN, out)?;
     match payload_len(out) {
