@@ -15,7 +15,7 @@ use Rattle.frame_grammar.specs.Frame.{IsBody}
 use Rattle.frame_grammar.proofs.Only.{frame_found}
 use Rattle.pair_entries.specs.declared.entry.Took.{Took}
 use Rattle.pair_entries.specs.declared.entry.Entry.{Entry}
-use Rattle.pair_journal.specs.Numbers.{is_side}
+use Rattle.kept_entries.specs.Numbers.{is_side}
 use Rattle.session_frames.specs.Frames.{kind_of}
 use Rattle.sound_laws.proofs.Each.{each_joined}
 use Rattle.wires.specs.Wire.{Connection}

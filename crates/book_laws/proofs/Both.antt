@@ -4,7 +4,7 @@ use Rattle.std.specs.List.{AllByRecursion}
 use Rattle.order_meaning.specs.declared.Side.{Side}
 use Rattle.order_meaning.specs.declared.Side.TheVariants.{Client, Venue}
 use Rattle.pair_entries.specs.declared.entry.Entry.{Entry}
-use Rattle.pair_journal.specs.Numbers.{first_numbers}
+use Rattle.kept_entries.specs.Numbers.{first_numbers}
 use Rattle.event_decisions.specs.Laws.{DecisionsMake}
 use Rattle.message_answers.specs.Answer.{other}
 use Rattle.book_laws.specs.HeardLaws.{AnswersAreHeard, BodiesAreReadAlike, IdsAreCompared}

@@ -19,7 +19,7 @@ use Rattle.event_decisions.specs.Body.{fields_of}
 use Rattle.pair_entries.specs.declared.entry.Took.{Took}
 use Rattle.pair_entries.specs.declared.entry.Out.{Out}
 use Rattle.pair_entries.specs.declared.entry.Entry.{Entry}
-use Rattle.pair_journal.specs.Given.{letters_to, source_in}
+use Rattle.kept_entries.specs.Given.{letters_to, source_in}
 use Rattle.message_answers.specs.Answer.{other}
 use Rattle.message_answers.specs.Chains.{chains_after, chains_of, if_new, item_in, item_said}
 use Rattle.message_answers.specs.Chains.{joining, joining_letter, new_item}

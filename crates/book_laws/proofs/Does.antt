@@ -16,8 +16,8 @@ use Rattle.frame_grammar.specs.Frame.{IsBody}
 use Rattle.pair_entries.specs.declared.entry.Took.{Took}
 use Rattle.pair_entries.specs.declared.entry.Out.{Out}
 use Rattle.pair_entries.specs.declared.entry.Entry.{Entry}
-use Rattle.pair_journal.specs.Given.{source_of}
-use Rattle.pair_journal.specs.Numbers.{first_numbers, is_side, outs_to}
+use Rattle.kept_entries.specs.Given.{source_of}
+use Rattle.kept_entries.specs.Numbers.{first_numbers, is_side, outs_to}
 use Rattle.row_values.specs.Kinds.{resend_of}
 use Rattle.event_decisions.specs.Body.{fields_of}
 use Rattle.event_decisions.specs.Laws.{AreAdmin, IsOfSession}

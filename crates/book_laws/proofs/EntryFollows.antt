@@ -19,7 +19,7 @@ use Rattle.pair_entries.specs.declared.entry.Took.{Took}
 use Rattle.pair_entries.specs.declared.entry.Out.{Out}
 use Rattle.pair_entries.specs.declared.entry.Entry.{Entry}
 use Rattle.pair_entries.specs.Payload.{IsEntry, IsTook}
-use Rattle.pair_journal.specs.Numbers.{is_side}
+use Rattle.kept_entries.specs.Numbers.{is_side}
 use Rattle.event_decisions.specs.Body.{fields_of}
 use Rattle.event_decisions.specs.Event.{Event, side_of}
 use Rattle.event_decisions.specs.Decide.{Words, Sessions, Given, Decision, session_of}

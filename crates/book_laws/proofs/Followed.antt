@@ -13,9 +13,9 @@ use Rattle.order_meaning.specs.declared.names.Names.{Names}
 use Rattle.pair_entries.specs.declared.entry.Out.{Out}
 use Rattle.pair_entries.specs.declared.entry.Entry.{Entry}
 use Rattle.pair_entries.specs.Payload.{Next}
-use Rattle.pair_journal.specs.Numbers.{first_numbers, is_side, outs_to, next_out, Numbered}
-use Rattle.pair_journal.specs.Numbers.{GoesOn, OutsGoOn}
-use Rattle.pair_journal.specs.Journal.{AreEntries}
+use Rattle.kept_entries.specs.Numbers.{first_numbers, is_side, outs_to, next_out, Numbered}
+use Rattle.kept_entries.specs.Numbers.{GoesOn, OutsGoOn}
+use Rattle.kept_entries.specs.Entries.{AreEntries}
 use Rattle.event_decisions.specs.Decide.{LawfulAfter}
 use Rattle.message_answers.specs.Answer.{Answers, other}
 use Rattle.message_answers.specs.Laws.{AnswersAreGivenOut, AreNumbered}

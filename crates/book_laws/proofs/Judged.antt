@@ -12,8 +12,8 @@ use Rattle.session_core.specs.declared.said.Said.{Said}
 use Rattle.pair_entries.specs.declared.entry.Took.{Took}
 use Rattle.pair_entries.specs.declared.entry.Out.{Out}
 use Rattle.pair_entries.specs.declared.entry.Entry.{Entry}
-use Rattle.pair_journal.specs.Numbers.{is_side}
-use Rattle.pair_journal.specs.Given.{has_letter, letters_to}
+use Rattle.kept_entries.specs.Numbers.{is_side}
+use Rattle.kept_entries.specs.Given.{has_letter, letters_to}
 use Rattle.sound_laws.proofs.Each.{not_true}
 use Rattle.reject_rules.specs.Refusals.{refusal_of}
 use Rattle.event_decisions.specs.Body.{fields_of, type_of}

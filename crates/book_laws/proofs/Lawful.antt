@@ -10,9 +10,9 @@ use Rattle.pair_entries.specs.declared.entry.Took.{Took}
 use Rattle.pair_entries.specs.declared.entry.Out.{Out}
 use Rattle.pair_entries.specs.declared.entry.Entry.{Entry}
 use Rattle.pair_entries.specs.Payload.{Next}
-use Rattle.pair_journal.specs.Journal.{AreEntries}
-use Rattle.pair_journal.specs.Numbers.{GoesOn, TookGoesOn, first_numbers, next_in, numbers_after}
-use Rattle.pair_journal.specs.Numbers.{outs_to}
+use Rattle.kept_entries.specs.Entries.{AreEntries}
+use Rattle.kept_entries.specs.Numbers.{GoesOn, TookGoesOn, first_numbers, next_in, numbers_after}
+use Rattle.kept_entries.specs.Numbers.{outs_to}
 use Rattle.event_decisions.specs.Decide.{IsDecided, IsLawful, LawfulAfter, asked_of, is_active}
 use Rattle.event_decisions.specs.Decide.{numbers_of}
 use Rattle.event_decisions.specs.Laws.{Breaks, DecisionsMake, Makes, counts, taking_of}

@@ -30,7 +30,7 @@ use Rattle.pair_entries.specs.declared.entry.Took.{Took}
 use Rattle.pair_entries.specs.declared.entry.Out.{Out}
 use Rattle.pair_entries.specs.declared.entry.Entry.{Entry}
 use Rattle.pair_entries.specs.Payload.{IsEntry, IsTook}
-use Rattle.pair_journal.specs.Numbers.{is_side, outs_to}
+use Rattle.kept_entries.specs.Numbers.{is_side, outs_to}
 use Rattle.event_decisions.specs.Body.{fields_of, type_of}
 use Rattle.event_decisions.specs.Event.{Event, Opened, Frame, Closed, Tick, End}
 use Rattle.event_decisions.specs.Decide.{Asked, Words, Sessions, asked_by, asked_if, asked_of, asks}

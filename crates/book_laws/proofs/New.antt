@@ -8,9 +8,9 @@ use Rattle.pair_entries.specs.declared.entry.Took.{Took}
 use Rattle.pair_entries.specs.declared.entry.Out.{Out}
 use Rattle.pair_entries.specs.declared.entry.Entry.{Entry}
 use Rattle.pair_entries.specs.Payload.{Next}
-use Rattle.pair_journal.specs.Numbers.{Counts, GoesOn, Numbered, OutsGoOn, Taking, Takes}
-use Rattle.pair_journal.specs.Numbers.{TookGoesOn, first_numbers, next_in, next_out, numbers_after}
-use Rattle.pair_journal.specs.Numbers.{outs_to}
+use Rattle.kept_entries.specs.Numbers.{Counts, GoesOn, Numbered, OutsGoOn, Taking, Takes}
+use Rattle.kept_entries.specs.Numbers.{TookGoesOn, first_numbers, next_in, next_out, numbers_after}
+use Rattle.kept_entries.specs.Numbers.{outs_to}
 use Rattle.event_decisions.specs.Laws.{IsNumbered, taking_of}
 use Rattle.life_laws.specs.Receiver.{message_of_out, read_body}
 use Rattle.life_laws.specs.Taken.{Read, GapFill, Reset, Other}

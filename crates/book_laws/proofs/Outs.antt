@@ -9,7 +9,7 @@ use Rattle.order_meaning.specs.declared.Side.{Side}
 use Rattle.order_meaning.specs.declared.names.Names.{Names}
 use Rattle.pair_entries.specs.declared.entry.Out.{Out}
 use Rattle.pair_entries.specs.declared.entry.Entry.{Entry}
-use Rattle.pair_journal.specs.Numbers.{outs_to}
+use Rattle.kept_entries.specs.Numbers.{outs_to}
 use Rattle.event_decisions.specs.Body.{fields_of}
 use Rattle.life_laws.specs.Forms.{Placed, placed_at, placed, all_placed}
 use Rattle.life_laws.specs.Receiver.{IsSent, AreSent, message_of_out}

@@ -13,7 +13,7 @@ use Rattle.session_core.specs.declared.act.Admin.{Admin}
 use Rattle.session_core.specs.declared.act.Admin.TheVariants as admin
 use Rattle.session_logon.specs.Content.{said}
 use Rattle.pair_entries.specs.declared.entry.Out.{Out}
-use Rattle.pair_journal.specs.Numbers.{is_side}
+use Rattle.kept_entries.specs.Numbers.{is_side}
 use Rattle.event_decisions.specs.Decide.{Heard, says_of}
 use Rattle.life_laws.specs.Receiver.{message_of_out}
 use Rattle.book_laws.specs.Heard.{is_among, is_reject, sort_of, refusal_sort}

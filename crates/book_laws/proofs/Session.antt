@@ -20,7 +20,7 @@ use Rattle.session_logon.specs.Head.{end_kind, kind_of, logon_kind, number_in, r
 use Rattle.session_logon.specs.Head.{sequence_reset_kind, test_request_kind}
 use Rattle.session_logon.specs.Logon.{is_yes, logon_of}
 use Rattle.session_logon.specs.Reasons.{read_between, read_zero_or_from, required, text_fault}
-use Rattle.pair_journal.specs.Numbers.{Taking, Counts, Fills, Resets}
+use Rattle.kept_entries.specs.Numbers.{Taking, Counts, Fills, Resets}
 use Rattle.sound_laws.proofs.Each.{both}
 use Rattle.event_decisions.specs.Body.{fields_of, type_of}
 use Rattle.event_decisions.specs.Laws.{taking_by, taking_of}

@@ -15,9 +15,9 @@ use Rattle.sound_laws.proofs.Each.{not_true}
 use Rattle.pair_entries.specs.declared.entry.Took.{Took}
 use Rattle.pair_entries.specs.declared.entry.Out.{Out}
 use Rattle.pair_entries.specs.declared.entry.Entry.{Entry}
-use Rattle.pair_journal.specs.Given.{given as given_out, has_letter, is_source}
-use Rattle.pair_journal.specs.Given.{letter_of, letters_to, numbered, source_in, source_of}
-use Rattle.pair_journal.specs.Numbers.{is_side, outs_to}
+use Rattle.kept_entries.specs.Given.{given as given_out, has_letter, is_source}
+use Rattle.kept_entries.specs.Given.{letter_of, letters_to, numbered, source_in, source_of}
+use Rattle.kept_entries.specs.Numbers.{is_side, outs_to}
 use Rattle.event_decisions.specs.Body.{type_of}
 use Rattle.event_decisions.specs.Laws.{AreAdmin}
 use Rattle.message_answers.specs.Answer.{other}

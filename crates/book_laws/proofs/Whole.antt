@@ -14,9 +14,9 @@ use Rattle.order_meaning.specs.declared.names.Names.{Names}
 use Rattle.pair_entries.specs.declared.entry.Took.{Took}
 use Rattle.pair_entries.specs.declared.entry.Entry.{Entry}
 use Rattle.pair_entries.specs.Payload.{Next}
-use Rattle.pair_journal.specs.Numbers.{GoesOn, InStays, Taking}
-use Rattle.pair_journal.specs.Numbers.{Takes as TakesNumber, first_numbers, is_side, next_in}
-use Rattle.pair_journal.specs.Numbers.{next_out, numbers_after, outs_to}
+use Rattle.kept_entries.specs.Numbers.{GoesOn, InStays, Taking}
+use Rattle.kept_entries.specs.Numbers.{Takes as TakesNumber, first_numbers, is_side, next_in}
+use Rattle.kept_entries.specs.Numbers.{next_out, numbers_after, outs_to}
 use Rattle.wires.specs.Wire.{Connection}
 use Rattle.message_answers.specs.Answer.{other}
 use Rattle.life_laws.specs.Bodies.{bodies_read}

@@ -7,7 +7,7 @@ use Rattle.field_groups.specs.Fields.{has_tag, is_tag_good}
 use Rattle.field_groups.specs.HeadValues.{number_in}
 use Rattle.typed_fields.specs.Digits.{are_digits, number_of}
 use Rattle.pair_entries.specs.declared.entry.Entry.{Entry}
-use Rattle.pair_journal.specs.Numbers.{Counts, GoesOn, Resets, Taking, Takes}
+use Rattle.kept_entries.specs.Numbers.{Counts, GoesOn, Resets, Taking, Takes}
 use Rattle.event_decisions.specs.Body.{reading_of}
 use Rattle.event_decisions.specs.Laws.{taking_of}
 use Rattle.book_laws.proofs.WorkedHeard.{soh}

@@ -11,8 +11,8 @@ use Rattle.session_logon.specs.Head.{number_in}
 use Rattle.pair_entries.specs.declared.TheConstants.{MAX_NUMBER}
 use Rattle.pair_entries.specs.declared.entry.Out.{Out}
 use Rattle.pair_entries.specs.declared.entry.Entry.{Entry}
-use Rattle.pair_journal.specs.Journal.{AreEntries}
-use Rattle.pair_journal.specs.Numbers.{Counts, Fills, Resets, first_numbers}
+use Rattle.kept_entries.specs.Entries.{AreEntries}
+use Rattle.kept_entries.specs.Numbers.{Counts, Fills, Resets, first_numbers}
 use Rattle.event_decisions.specs.Body.{fields_of, type_of}
 use Rattle.event_decisions.specs.Decide.{Asked, IsLawful, Words, out_of}
 use Rattle.event_decisions.specs.Laws.{taking_of, what_of}

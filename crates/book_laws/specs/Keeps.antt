@@ -4,7 +4,7 @@ use Rattle.std.specs.Prelude.{map, Some, None, IsSomeAnd}
 use Rattle.std.specs.List.{AllByRecursion, slice_get}
 use Rattle.order_meaning.specs.declared.Side.{Side}
 use Rattle.pair_entries.specs.declared.entry.Entry.{Entry}
-use Rattle.pair_journal.specs.Numbers.{first_numbers, next_in, next_out, numbers_after, outs_to}
+use Rattle.kept_entries.specs.Numbers.{first_numbers, next_in, next_out, numbers_after, outs_to}
 use Rattle.event_decisions.specs.Laws.{Breaks}
 use Rattle.wires.specs.Wire.{Connection}
 use Rattle.life_laws.specs.Bodies.{bodies_read}

@@ -8,8 +8,8 @@ use Rattle.frame_grammar.specs.Frame.{IsBody}
 use Rattle.order_chains.specs.declared.item.ChainItem.{ChainItem}
 use Rattle.pair_entries.specs.declared.entry.Took.{Took}
 use Rattle.pair_entries.specs.declared.entry.Entry.{Entry}
-use Rattle.pair_journal.specs.Numbers.{first_numbers}
-use Rattle.pair_journal.specs.Journal.{AreEntries}
+use Rattle.kept_entries.specs.Numbers.{first_numbers}
+use Rattle.kept_entries.specs.Entries.{AreEntries}
 use Rattle.event_decisions.specs.Body.{fields_of, type_of}
 use Rattle.event_decisions.specs.Decide.{IsLawful}
 use Rattle.message_tables.specs.Tables.{Message, Tag, said_at, text_in}

@@ -14,7 +14,7 @@ use Rattle.order_meaning.specs.Book.{Book}
 use Rattle.pair_entries.specs.declared.entry.Took.{Took}
 use Rattle.pair_entries.specs.declared.entry.Out.{Out}
 use Rattle.pair_entries.specs.declared.entry.Entry.{Entry}
-use Rattle.pair_journal.specs.Numbers.{is_side}
+use Rattle.kept_entries.specs.Numbers.{is_side}
 use Rattle.dict_fix42.specs.Sense.{request42}
 use Rattle.dict_fix50.specs.Sense.{request50}
 use Rattle.reports_fix42.specs.Step.{step42}

@@ -8,7 +8,7 @@ use Rattle.message_tables.specs.Tables.{Message, ◌>>=◌}
 use Rattle.order_meaning.specs.declared.Side.{Side}
 use Rattle.order_meaning.specs.declared.fault.Fault.{Fault}
 use Rattle.pair_entries.specs.declared.entry.Entry.{Entry}
-use Rattle.pair_journal.specs.Numbers.{outs_to}
+use Rattle.kept_entries.specs.Numbers.{outs_to}
 use Rattle.message_answers.specs.Message.{said_by}
 use Rattle.life_laws.specs.Justified.{raw_of}
 use Rattle.life_laws.specs.Receiver.{message_of_out, read_body}

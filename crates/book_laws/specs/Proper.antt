@@ -3,8 +3,8 @@ use Rattle.std.specs.Prelude.{◌⊎◌, List, [], ◌∷◌}
 use Rattle.order_meaning.specs.declared.names.Names.{Names}
 use Rattle.pair_entries.specs.declared.entry.Entry.{Entry}
 use Rattle.pair_entries.specs.Payload.{Next}
-use Rattle.pair_journal.specs.Numbers.{GoesOn, TookGoesOn, first_numbers}
-use Rattle.pair_journal.specs.Journal.{AreEntries}
+use Rattle.kept_entries.specs.Numbers.{GoesOn, TookGoesOn, first_numbers}
+use Rattle.kept_entries.specs.Entries.{AreEntries}
 use Rattle.event_decisions.specs.Decide.{IsLawful}
 use Rattle.event_decisions.specs.Laws.{counts, taking_of}
 use Rattle.message_answers.specs.Answer.{Answers}

@@ -18,7 +18,7 @@ use Rattle.gateway_life.specs.declared.end.LifeEnd.{LifeEnd}
 use Rattle.gateway_life.specs.Life.{IsJournal}
 use Rattle.gateway_life.specs.Watched.{WereCommitted}
 use Rattle.message_answers.specs.Answer.{Answers}
-use Rattle.pair_journal.specs.Days.{days_of}
+use Rattle.kept_entries.specs.Days.{days_of}
 use Rattle.life_laws.specs.Days.{LeavesDays}
 use Rattle.gateway_life.specs.Laws.{AreShown, FirstLivesBegin}
 use Rattle.drop_taps.specs.Shown.{TapState, HaveSeen}

@@ -15,7 +15,7 @@ use Rattle.wires.specs.Script.{Plays}
 use Rattle.wires.specs.Clock.{ClockState, moments_given, moments_told}
 use Rattle.wires.specs.MemWire.{WireState, plays}
 use Rattle.message_answers.specs.Answer.{Answers}
-use Rattle.pair_journal.specs.Days.{days_of}
+use Rattle.kept_entries.specs.Days.{days_of}
 use Rattle.life_laws.specs.Days.{DayEnded, DayLeft, LeavesDays}
 use Rattle.gateway_config.specs.declared.config.Config.{Config}
 use Rattle.gateway_life.specs.declared.end.LifeEnd.{LifeEnd}

@@ -5,7 +5,7 @@ use Rattle.std.specs.declared.option.Option.{Option}
 use Rattle.pair_entries.specs.declared.entry.Entry.{Entry}
 use Rattle.wires.specs.Wire.{WireCall}
 use Rattle.message_answers.specs.Answer.{Answers}
-use Rattle.pair_journal.specs.Days.{days_of}
+use Rattle.kept_entries.specs.Days.{days_of}
 use Rattle.life_laws.specs.Days.{DayEnded, DayLeft, LeavesDays}
 use Rattle.gateway_config.specs.declared.config.Config.{Config}
 use Rattle.gateway_life.specs.declared.end.LifeEnd.{LifeEnd}

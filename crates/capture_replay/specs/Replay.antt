@@ -9,12 +9,12 @@ use Rattle.order_meaning.specs.declared.Side.TheVariants.{Client, Venue}
 use Rattle.order_meaning.specs.declared.names.Names.{Names}
 use Rattle.pair_entries.specs.declared.entry.Entry.{Entry}
 use Rattle.pair_entries.specs.Payload.{Next}
-use Rattle.pair_journal.specs.Numbers.{first_numbers, numbers_after}
+use Rattle.kept_entries.specs.Numbers.{first_numbers, numbers_after}
 use Rattle.wires.specs.Wire.{Came}
 use Rattle.wires.specs.Script.{Plays}
 use Rattle.wires.specs.Clock.{moments_given}
 use Rattle.message_answers.specs.Answer.{Answers}
-use Rattle.pair_journal.specs.Days.{days_of, last_day}
+use Rattle.kept_entries.specs.Days.{days_of, last_day}
 use Rattle.life_laws.specs.Days.{DayEnded, DayLeft, Transcript, LeavesDays, transcript_after}
 use Rattle.gateway_config.specs.declared.config.Config.{Config}
 use Rattle.gateway_life.specs.declared.end.LifeEnd.{LifeEnd}

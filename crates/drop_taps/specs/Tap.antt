@@ -7,8 +7,8 @@ use Rattle.outside.specs.Causes.{next_count, Rose}
 use Rattle.order_meaning.specs.declared.Side.TheVariants.{Client, Venue}
 use Rattle.pair_entries.specs.declared.entry.Out.{Out}
 use Rattle.pair_entries.specs.declared.entry.Entry.{Entry}
-use Rattle.pair_journal.specs.Numbers.{is_side}
-use Rattle.pair_journal.specs.Given.{source_in}
+use Rattle.kept_entries.specs.Numbers.{is_side}
+use Rattle.kept_entries.specs.Given.{source_in}
 use Rattle.drop_taps.specs.declared.tap.Seen.{Seen}
 use Rattle.drop_taps.specs.declared.tap.TapFailed.{TapFailed}
 use Rattle.drop_taps.specs.declared.tap.TapFailed.TheVariants.{Fault}

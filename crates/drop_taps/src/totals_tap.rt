@@ -6,9 +6,9 @@ ghost use Rattle.drop_taps.specs.Totals.{seen_by};
 ghost use Rattle.pair_entries.specs.declared.entry.Entry.{Entry};
 
 use crate::{Seen, Tap, TapFailed};
+use kept_entries::source_in;
 use order_meaning::Side;
 use pair_entries::{Entry, EntryRef, OutRef};
-use pair_journal::source_in;
 
 /// A tap that counts entries, requests, reports and refusals, as [`Seen`] says. It never fails, and
 /// takes no memory.

@@ -18,7 +18,7 @@ use Rattle.session_core.specs.Table.{S34, S35, S36, Quiet, effect_of, expects, o
 use Rattle.session_core.specs.Table.{resend_end, is_asked_for, asking}
 use Rattle.session_core.specs.Table.{is_test_due, is_heartbeat_due, is_ask_due, down}
 use Rattle.session_logon.specs.Content.{is_admin}
-use Rattle.pair_journal.specs.Numbers.{Takes, Taking}
+use Rattle.kept_entries.specs.Numbers.{Takes, Taking}
 use Rattle.event_decisions.specs.Decide.{Repeat, repeat_of, takes, is_for_application}
 use Rattle.event_decisions.specs.Laws.{is_breaking, taking_by}
 use Rattle.event_decisions.proofs.Picked.{Picked, IsPlain, IsIdle}

@@ -32,7 +32,7 @@ use Rattle.session_logon.specs.Reasons.{read_zero_or_from, text_fault}
 use Rattle.message_tables.specs.Tables.{value_at}
 use Rattle.pair_entries.specs.declared.entry.Out.{Out}
 use Rattle.pair_entries.specs.declared.entry.Entry.{Entry}
-use Rattle.pair_journal.specs.Numbers.{OutsGoOn, InStays, GoesOn, next_out}
+use Rattle.kept_entries.specs.Numbers.{OutsGoOn, InStays, GoesOn, next_out}
 use Rattle.pair_entries.specs.Payload.{Next}
 use Rattle.event_decisions.specs.Event.{Event, Opened, Frame, Closed, Tick, End, side_of}
 use Rattle.event_decisions.specs.Body.{type_of, fields_of}

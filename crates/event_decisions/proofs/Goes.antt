@@ -19,8 +19,8 @@ use Rattle.session_core.specs.Table.{says}
 use Rattle.session_logon.specs.Content.{said}
 use Rattle.pair_entries.specs.declared.entry.Took.{Took}
 use Rattle.pair_entries.specs.declared.entry.Out.{Out}
-use Rattle.pair_journal.specs.Numbers.{is_side, outs_to, Numbered}
-use Rattle.pair_journal.specs.Numbers.{next_in, next_out}
+use Rattle.kept_entries.specs.Numbers.{is_side, outs_to, Numbered}
+use Rattle.kept_entries.specs.Numbers.{next_in, next_out}
 use Rattle.pair_entries.specs.Payload.{Next}
 use Rattle.event_decisions.specs.Event.{Event, Opened, Frame, Closed, Tick, End, side_of}
 use Rattle.event_decisions.specs.Decide.{Sessions, AreSides, session_of, with_session, numbers_of}

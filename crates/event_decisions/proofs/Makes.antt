@@ -20,7 +20,7 @@ use Rattle.session_logon.specs.Head.{number_in}
 use Rattle.pair_entries.specs.declared.entry.Took.{Took}
 use Rattle.pair_entries.specs.declared.entry.Out.{Out}
 use Rattle.pair_entries.specs.declared.entry.Entry.{Entry}
-use Rattle.pair_journal.specs.Numbers.{Takes, Taking, next_in}
+use Rattle.kept_entries.specs.Numbers.{Takes, Taking, next_in}
 use Rattle.pair_entries.specs.Payload.{Next}
 use Rattle.event_decisions.specs.Body.{type_of, fields_of}
 use Rattle.event_decisions.specs.Event.{Event, Opened, Frame, Closed, Tick, End, side_of}

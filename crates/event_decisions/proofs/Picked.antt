@@ -22,7 +22,7 @@ use Rattle.session_core.specs.Table.{S22, S24, S25, S26, S27, S28, S29, S30, S31
 use Rattle.session_core.specs.Table.{S35, S36, Quiet, early_row, expected_row, numbered_row}
 use Rattle.session_core.specs.Table.{active_case, logon_row, waiting_case, message_row, is_fresh}
 use Rattle.session_core.specs.Table.{opened_row, tick_row, end_row, is_unanswered, elapsed}
-use Rattle.pair_journal.specs.Numbers.{Counts}
+use Rattle.kept_entries.specs.Numbers.{Counts}
 use Rattle.event_decisions.specs.Decide.{is_for_application}
 use Rattle.event_decisions.specs.Laws.{taking_by}
 

@@ -27,7 +27,7 @@ use Rattle.session_logon.specs.Head.{head_of}
 use Rattle.pair_entries.specs.declared.entry.Took.{Took}
 use Rattle.pair_entries.specs.declared.entry.Out.{Out}
 use Rattle.pair_entries.specs.declared.entry.Entry.{Entry}
-use Rattle.pair_journal.specs.Numbers.{numbers_after, first_numbers}
+use Rattle.kept_entries.specs.Numbers.{numbers_after, first_numbers}
 use Rattle.pair_entries.specs.Payload.{Next}
 use Rattle.event_decisions.specs.Body.{fields_of, type_of}
 use Rattle.event_decisions.specs.Event.{Event, Opened, Frame, Closed, Tick, End, side_of}

@@ -15,8 +15,8 @@ use Rattle.session_logon.specs.Head.{kind_of, number_in}
 use Rattle.pair_entries.specs.declared.entry.Took.{Took}
 use Rattle.pair_entries.specs.declared.entry.Out.{Out}
 use Rattle.pair_entries.specs.declared.entry.Entry.{Entry}
-use Rattle.pair_journal.specs.Numbers.{GoesOn, TookGoesOn, Taking, Counts, Fills, Resets}
-use Rattle.pair_journal.specs.Numbers.{next_in, next_out}
+use Rattle.kept_entries.specs.Numbers.{GoesOn, TookGoesOn, Taking, Counts, Fills, Resets}
+use Rattle.kept_entries.specs.Numbers.{next_in, next_out}
 use Rattle.event_decisions.specs.Body.{reading_of, fields_of, type_of}
 use Rattle.event_decisions.specs.Event.{Event, Frame}
 use Rattle.event_decisions.specs.Decide.{Sessions, AreSides, Asked, Words, Decision, Repeat}

@@ -10,7 +10,7 @@ use Rattle.session_core.specs.declared.head.What.{What}
 use Rattle.session_core.specs.Table as session
 use Rattle.pair_entries.specs.declared.entry.Took.{Took}
 use Rattle.pair_entries.specs.declared.entry.Entry.{Entry}
-use Rattle.pair_journal.specs.Given.{source_of}
+use Rattle.kept_entries.specs.Given.{source_of}
 use Rattle.event_decisions.specs.Decide.{Asked, Words, Heard, says_of, takes, took_if, asks}
 use Rattle.event_decisions.specs.Decide.{asked_if, is_active}
 use Rattle.event_decisions.specs.Laws.{AreWords}

@@ -29,8 +29,8 @@ use Rattle.session_logon.specs.Content.{said}
 use Rattle.pair_entries.specs.declared.entry.Took.{Took}
 use Rattle.pair_entries.specs.declared.entry.Out.{Out}
 use Rattle.pair_entries.specs.declared.entry.Entry.{Entry}
-use Rattle.pair_journal.specs.Given.{is_source, letter_of, letters_to, has_letter}
-use Rattle.pair_journal.specs.Numbers.{is_side}
+use Rattle.kept_entries.specs.Given.{is_source, letter_of, letters_to, has_letter}
+use Rattle.kept_entries.specs.Numbers.{is_side}
 use Rattle.pair_entries.specs.Payload.{IsOut, AreOuts}
 use Rattle.event_decisions.specs.Body.{reading_of}
 use Rattle.event_decisions.specs.Decide.{Sessions, Words, Given, Heard, Asked, Decision}

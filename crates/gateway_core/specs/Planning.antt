@@ -18,7 +18,7 @@ use Rattle.pair_entries.specs.declared.TheConstants.{MAX_CONTENT}
 use Rattle.pair_entries.specs.declared.entry.Took.{Took}
 use Rattle.pair_entries.specs.declared.entry.Out.{Out}
 use Rattle.pair_entries.specs.declared.entry.Entry.{Entry}
-use Rattle.pair_journal.specs.Given.{source_of}
+use Rattle.kept_entries.specs.Given.{source_of}
 use Rattle.pair_entries.specs.Payload.{Next}
 use Rattle.event_decisions.specs.Decide.{Sessions, Heard, Given, Words, Decision, Repeat, give}
 use Rattle.event_decisions.specs.Decide.{session_of, with_session, numbers_of, says_of, hangs_up}

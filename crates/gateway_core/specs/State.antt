@@ -10,8 +10,8 @@ use Rattle.order_chains.specs.Chains.{has_id}
 use Rattle.session_core.specs.declared.session.Session.{Session}
 use Rattle.session_core.specs.declared.session.LinkState.TheVariants.{Down}
 use Rattle.pair_entries.specs.declared.entry.Entry.{Entry}
-use Rattle.pair_journal.specs.Given.{source_of}
-use Rattle.pair_journal.specs.Numbers.{numbers_after, first_numbers, next_in, next_out}
+use Rattle.kept_entries.specs.Given.{source_of}
+use Rattle.kept_entries.specs.Numbers.{numbers_after, first_numbers, next_in, next_out}
 use Rattle.pair_entries.specs.Payload.{Next}
 use Rattle.gateway_config.specs.declared.config.Config.{Config}
 use Rattle.gateway_core.specs.declared.plan.Plan.{Plan}

@@ -6,13 +6,13 @@ use Rattle.std.proofs.lemmas.List.Sums.{fold-append}
 use Rattle.order_meaning.specs.declared.names.Names.{Names}
 use Rattle.pair_entries.specs.declared.entry.Entry.{Entry}
 use Rattle.pair_entries.specs.Payload.{Next, IsEntry}
-use Rattle.pair_journal.specs.Numbers.{GoesOn, first_numbers, numbers_before, numbers_after}
-use Rattle.pair_journal.specs.Days.{Days, day_with, day_ended, day_longer, no_days, days_of}
-use Rattle.pair_journal.specs.Days.{last_day}
-use Rattle.pair_journal.specs.Days.{past_of}
-use Rattle.pair_journal.specs.Journal.{AreEntries, DaysGoOn}
-use Rattle.pair_journal.proofs.Dating.{with_more, with_reset, past-last, before_more}
-use Rattle.pair_journal.proofs.Dating.{last_is_sound, AreEntries-push, numbers_after-push}
+use Rattle.kept_entries.specs.Numbers.{GoesOn, first_numbers, numbers_before, numbers_after}
+use Rattle.kept_entries.specs.Days.{Days, day_with, day_ended, day_longer, no_days, days_of}
+use Rattle.kept_entries.specs.Days.{last_day}
+use Rattle.kept_entries.specs.Days.{past_of}
+use Rattle.kept_entries.specs.Entries.{AreEntries, DaysGoOn}
+use Rattle.kept_entries.proofs.Dating.{with_more, with_reset, past-last, before_more}
+use Rattle.kept_entries.proofs.Dating.{last_is_sound, AreEntries-push, numbers_after-push}
 use Rattle.event_decisions.specs.Days.{new_day}
 use Rattle.event_decisions.specs.Decide.{IsDecided, LawfulAfter}
 use Rattle.event_decisions.proofs.Continues.{decisions_continue}

@@ -11,9 +11,10 @@ use Rattle.order_meaning.specs.declared.Side.TheVariants.{Client, Venue}
 use Rattle.order_meaning.specs.declared.names.Names.{Names}
 use Rattle.session_core.specs.declared.session.Session.{Session}
 use Rattle.pair_entries.specs.declared.entry.Entry.{Entry}
-use Rattle.pair_journal.specs.Numbers.{numbers_after, first_numbers}
-use Rattle.pair_journal.specs.Days.{last_day}
-use Rattle.pair_journal.specs.Journal.{JournalOf, Born, DaysGoOn}
+use Rattle.kept_entries.specs.Numbers.{numbers_after, first_numbers}
+use Rattle.kept_entries.specs.Days.{last_day}
+use Rattle.kept_entries.specs.Entries.{DaysGoOn}
+use Rattle.pair_journal.specs.Journal.{JournalOf, Born}
 use Rattle.event_decisions.specs.Event.{Event}
 use Rattle.event_decisions.specs.Decide.{Sessions, AreSides, numbers_of, Decision, Decides}
 use Rattle.message_answers.specs.Answer.{Answers}

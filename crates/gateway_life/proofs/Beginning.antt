@@ -10,10 +10,11 @@ use Rattle.pair_entries.specs.declared.entry.Entry.{Entry}
 use Rattle.pair_journal.specs.declared.error.JournalError.{JournalError}
 use Rattle.pair_journal.specs.declared.error.JournalError.TheVariants as errors
 use Rattle.pair_journal.specs.Calls.{Loads, BornOrNot}
-use Rattle.pair_journal.specs.Days.{last_day}
-use Rattle.pair_journal.proofs.Dating.{last_numbers}
-use Rattle.pair_journal.specs.Journal.{JournalOf, Unborn, Born, DaysGoOn}
-use Rattle.pair_journal.specs.Numbers.{first_numbers}
+use Rattle.kept_entries.specs.Days.{last_day}
+use Rattle.kept_entries.proofs.Dating.{last_numbers}
+use Rattle.kept_entries.specs.Entries.{DaysGoOn}
+use Rattle.pair_journal.specs.Journal.{JournalOf, Unborn, Born}
+use Rattle.kept_entries.specs.Numbers.{first_numbers}
 use Rattle.pair_journal.specs.State.{JournalState}
 use Rattle.gateway_config.specs.declared.config.Config.{Config}
 use Rattle.gateway_core.specs.State.{CoreState, loaded}

@@ -21,9 +21,9 @@ use Rattle.gate_log.specs.Records.{blocks}
 use Rattle.pair_entries.specs.declared.TheConstants.{MAX_NUMBER}
 use Rattle.pair_entries.specs.declared.entry.Entry.{Entry}
 use Rattle.pair_entries.specs.declared.entry.Took.{Took}
-use Rattle.pair_journal.specs.Numbers.{numbers_after, first_numbers, next_out}
-use Rattle.pair_journal.specs.Days.{last_day, past_of, payload_behind}
-use Rattle.pair_journal.proofs.Dating.{past-last, last_numbers}
+use Rattle.kept_entries.specs.Numbers.{numbers_after, first_numbers, next_out}
+use Rattle.kept_entries.specs.Days.{last_day, past_of, payload_behind}
+use Rattle.kept_entries.proofs.Dating.{past-last, last_numbers}
 use Rattle.pair_journal.specs.Calls.{RefusedUntold, payloads_of}
 use Rattle.pair_journal.specs.declared.error.JournalError.{JournalError}
 use Rattle.pair_journal.specs.declared.error.JournalError.TheVariants as errors

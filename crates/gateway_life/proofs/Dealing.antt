@@ -10,7 +10,7 @@ use Rattle.order_meaning.specs.declared.Side.{Side}
 use Rattle.gate_log.specs.Log.{OnlyRead}
 use Rattle.pair_journal.specs.declared.error.JournalError.TheVariants as errors
 use Rattle.pair_journal.specs.declared.error.JournalError.{JournalError}
-use Rattle.pair_journal.specs.Days.{past_of}
+use Rattle.kept_entries.specs.Days.{past_of}
 use Rattle.pair_journal.specs.Calls.{HasDiskCause}
 use Rattle.pair_journal.specs.State.{JournalState}
 use Rattle.drop_taps.specs.Shown.{TapState}

@@ -17,12 +17,13 @@ use Rattle.pair_entries.specs.declared.entry.Entry.{Entry}
 use Rattle.pair_entries.specs.Payload.{Next, AreNext, IsEntry, AreOuts}
 use Rattle.pair_journal.specs.declared.error.JournalError.{JournalError}
 use Rattle.pair_journal.specs.declared.error.JournalError.TheVariants as errors
-use Rattle.pair_journal.specs.Numbers.{next_out, outs_to, Numbered, OutsGoOn, GoesOn, is_side}
-use Rattle.pair_journal.specs.Numbers.{numbers_after, first_numbers}
-use Rattle.pair_journal.specs.Journal.{JournalOf, Born, AreEntries, DaysGoOn}
-use Rattle.pair_journal.specs.Days.{last_day, past_of, payload_behind}
-use Rattle.pair_journal.proofs.Dating.{last_numbers, last_day-reset, last_is_sound, past-last}
-use Rattle.pair_journal.specs.Given.{source_of}
+use Rattle.kept_entries.specs.Numbers.{next_out, outs_to, Numbered, OutsGoOn, GoesOn, is_side}
+use Rattle.kept_entries.specs.Numbers.{numbers_after, first_numbers}
+use Rattle.kept_entries.specs.Entries.{AreEntries, DaysGoOn}
+use Rattle.pair_journal.specs.Journal.{JournalOf, Born}
+use Rattle.kept_entries.specs.Days.{last_day, past_of, payload_behind}
+use Rattle.kept_entries.proofs.Dating.{last_numbers, last_day-reset, last_is_sound, past-last}
+use Rattle.kept_entries.specs.Given.{source_of}
 use Rattle.pair_journal.specs.State.{JournalState}
 use Rattle.pair_journal.specs.Calls.{Commits, KeepsJournal, payloads_of}
 use Rattle.order_chains.specs.declared.item.ChainItem.{ChainItem}

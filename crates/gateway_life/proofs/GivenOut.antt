@@ -44,8 +44,8 @@ use Rattle.pair_entries.specs.declared.entry.Took.{Took}
 use Rattle.pair_entries.specs.declared.entry.Out.{Out}
 use Rattle.pair_entries.specs.declared.entry.Entry.{Entry}
 use Rattle.pair_entries.specs.Payload.{Next, IsEntry, IsOut, IsTook, AreOuts}
-use Rattle.pair_journal.specs.Numbers.{first_numbers, is_side, outs_to}
-use Rattle.pair_journal.specs.Journal.{AreEntries}
+use Rattle.kept_entries.specs.Numbers.{first_numbers, is_side, outs_to}
+use Rattle.kept_entries.specs.Entries.{AreEntries}
 use Rattle.event_decisions.specs.Body.{first_value, reading_of}
 use Rattle.event_decisions.specs.Event.{Event, Opened, Frame, Closed, Tick, End, side_of}
 use Rattle.event_decisions.specs.Decide.{Asked, Words, Sessions, Heard, Given, Decision}

@@ -11,10 +11,11 @@ use Rattle.order_meaning.specs.declared.names.Names.{Names}
 use Rattle.order_meaning.specs.declared.Side.TheVariants.{Client, Venue}
 use Rattle.frame_grammar.specs.Held.{Held}
 use Rattle.pair_entries.specs.declared.entry.Entry.{Entry}
-use Rattle.pair_journal.specs.Days.{last_day, past_of}
-use Rattle.pair_journal.specs.Journal.{JournalOf, Born, DaysGoOn}
-use Rattle.pair_journal.specs.Numbers.{first_numbers}
-use Rattle.pair_journal.proofs.Dating.{past-last}
+use Rattle.kept_entries.specs.Days.{last_day, past_of}
+use Rattle.kept_entries.specs.Entries.{DaysGoOn}
+use Rattle.pair_journal.specs.Journal.{JournalOf, Born}
+use Rattle.kept_entries.specs.Numbers.{first_numbers}
+use Rattle.kept_entries.proofs.Dating.{past-last}
 use Rattle.drop_taps.specs.Shown.{TapState}
 use Rattle.life_laws.specs.Happens.{World}
 use Rattle.gateway_config.specs.declared.config.Config.{Config}

@@ -5,9 +5,9 @@ use Rattle.order_meaning.specs.declared.Side.{Side}
 use Rattle.order_meaning.specs.declared.Side.TheVariants.{Client, Venue}
 use Rattle.order_meaning.specs.declared.names.Names.{Names}
 use Rattle.pair_entries.specs.declared.entry.Entry.{Entry}
-use Rattle.pair_journal.specs.Days.{days_of, last_day, past_of, day_at}
-use Rattle.pair_journal.specs.Journal.{AreEntries}
-use Rattle.pair_journal.specs.Numbers.{numbers_after, first_numbers}
+use Rattle.kept_entries.specs.Days.{days_of, last_day, past_of, day_at}
+use Rattle.kept_entries.specs.Entries.{AreEntries}
+use Rattle.kept_entries.specs.Numbers.{numbers_after, first_numbers}
 use Rattle.event_decisions.specs.Decide.{Sessions, AreSides, IsLawful, numbers_of}
 use Rattle.event_decisions.specs.Laws.{BodiesAreRead}
 use Rattle.message_answers.specs.Answer.{Answers}

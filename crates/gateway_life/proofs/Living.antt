@@ -14,10 +14,11 @@ use Rattle.order_meaning.specs.declared.names.Names.{Names}
 use Rattle.pair_entries.specs.declared.entry.Entry.{Entry}
 use Rattle.pair_journal.specs.Calls.{BornOrNot}
 use Rattle.gate_log.specs.Log.{OnlyRead}
-use Rattle.pair_journal.specs.Numbers.{first_numbers}
-use Rattle.pair_journal.specs.Days.{last_day, past_of, day_at, days_of}
-use Rattle.pair_journal.specs.Journal.{JournalOf, Unborn, Born, Refused, DaysGoOn}
-use Rattle.pair_journal.proofs.Dating.{past-last}
+use Rattle.kept_entries.specs.Numbers.{first_numbers}
+use Rattle.kept_entries.specs.Days.{last_day, past_of, day_at, days_of}
+use Rattle.kept_entries.specs.Entries.{DaysGoOn}
+use Rattle.pair_journal.specs.Journal.{JournalOf, Unborn, Born, Refused}
+use Rattle.kept_entries.proofs.Dating.{past-last}
 use Rattle.order_meaning.specs.declared.Side.TheVariants.{Client, Venue}
 use Rattle.pair_journal.specs.Laws.{HasOneReading}
 use Rattle.message_answers.specs.Answer.{Answers}

@@ -14,10 +14,10 @@ use Rattle.pair_entries.specs.Payload.{Next, IsEntry}
 use Rattle.pair_journal.specs.declared.error.JournalError.{JournalError}
 use Rattle.pair_journal.specs.declared.error.JournalError.TheVariants as errors
 use Rattle.pair_journal.specs.Calls.{payloads_of}
-use Rattle.pair_journal.specs.Days.{last_day, payload_behind}
-use Rattle.pair_journal.specs.Numbers.{GoesOn, numbers_before}
+use Rattle.kept_entries.specs.Days.{last_day, payload_behind}
+use Rattle.kept_entries.specs.Numbers.{GoesOn, numbers_before}
 use Rattle.pair_journal.specs.State.{JournalState}
-use Rattle.pair_journal.proofs.Dating.{last_day-reset}
+use Rattle.kept_entries.proofs.Dating.{last_day-reset}
 use Rattle.event_decisions.specs.Days.{new_day}
 use Rattle.life_laws.specs.Sends.{hang_up_if}
 use Rattle.gateway_config.specs.declared.config.Config.{Config}

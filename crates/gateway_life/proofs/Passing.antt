@@ -4,7 +4,7 @@ use Rattle.std.proofs.Common.{append-nil, Ok}
 use Rattle.std.specs.Prelude.{◌&&◌}
 use Rattle.std.specs.declared.option.Option.{Option}
 use Rattle.order_meaning.specs.declared.Side.{Side}
-use Rattle.pair_journal.specs.Days.{last_day}
+use Rattle.kept_entries.specs.Days.{last_day}
 use Rattle.event_decisions.specs.Event.{Tick}
 use Rattle.event_decisions.specs.Decide.{Decides}
 use Rattle.message_answers.specs.Answer.{Answers}

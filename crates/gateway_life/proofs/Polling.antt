@@ -10,7 +10,7 @@ use Rattle.order_meaning.specs.declared.Side.{Side}
 use Rattle.frame_grammar.specs.Held.{Held, room}
 use Rattle.frame_grammar.specs.Cut.{Piece}
 use Rattle.frame_grammar.specs.Framer.{StandsFor}
-use Rattle.pair_journal.specs.Days.{past_of}
+use Rattle.kept_entries.specs.Days.{past_of}
 use Rattle.pair_journal.specs.State.{JournalState}
 use Rattle.drop_taps.specs.Shown.{TapState}
 use Rattle.event_decisions.specs.Event.{Event, Frame, Tick}

@@ -9,10 +9,10 @@ use Rattle.std.proofs.lemmas.Bool.Decides.{nat_tests}
 use Rattle.std.proofs.lemmas.List.{map-append}
 use Rattle.std.proofs.lemmas.List.Sums.{fold-append}
 use Rattle.pair_entries.specs.declared.entry.Entry.{Entry}
-use Rattle.pair_journal.specs.Numbers.{first_numbers}
-use Rattle.pair_journal.specs.Days.{last_day, past_of, begun_with, day_at}
-use Rattle.pair_journal.specs.Journal.{DaysGoOn}
-use Rattle.pair_journal.proofs.Dating.{day_at-push, past-last}
+use Rattle.kept_entries.specs.Numbers.{first_numbers}
+use Rattle.kept_entries.specs.Days.{last_day, past_of, begun_with, day_at}
+use Rattle.kept_entries.specs.Entries.{DaysGoOn}
+use Rattle.kept_entries.proofs.Dating.{day_at-push, past-last}
 use Rattle.event_decisions.specs.Days.{is_due, session_day, new_day}
 use Rattle.event_decisions.specs.Event.{Event}
 use Rattle.message_answers.specs.Answer.{Answers}

@@ -7,7 +7,7 @@ use Rattle.frame_grammar.specs.Held.{Held}
 use Rattle.order_meaning.specs.declared.Side.{Side}
 use Rattle.order_meaning.specs.declared.Side.TheVariants.{Client, Venue}
 use Rattle.pair_entries.specs.declared.entry.Entry.{Entry}
-use Rattle.pair_journal.specs.Days.{past_of}
+use Rattle.kept_entries.specs.Days.{past_of}
 use Rattle.event_decisions.specs.Event.{Event, Tick}
 use Rattle.message_answers.specs.Answer.{Answers}
 use Rattle.gateway_config.specs.declared.config.Config.{Config}

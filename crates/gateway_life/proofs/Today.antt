@@ -5,11 +5,11 @@ use Rattle.std.specs.declared.option.Option.{Option}
 use Rattle.std.specs.Option.{option_to_list}
 use Rattle.pair_entries.specs.declared.entry.Entry.{Entry}
 use Rattle.pair_entries.specs.Payload.{Next, IsEntry}
-use Rattle.pair_journal.specs.Numbers.{GoesOn, first_numbers, numbers_before, numbers_after}
-use Rattle.pair_journal.specs.Journal.{DaysGoOn}
-use Rattle.pair_journal.specs.Days.{last_day, past_of}
-use Rattle.pair_journal.proofs.Dating.{DaysGoOn-push, before_more, last_day-push, past_more}
-use Rattle.pair_journal.proofs.Dating.{last_numbers}
+use Rattle.kept_entries.specs.Numbers.{GoesOn, first_numbers, numbers_before, numbers_after}
+use Rattle.kept_entries.specs.Entries.{DaysGoOn}
+use Rattle.kept_entries.specs.Days.{last_day, past_of}
+use Rattle.kept_entries.proofs.Dating.{DaysGoOn-push, before_more, last_day-push, past_more}
+use Rattle.kept_entries.proofs.Dating.{last_numbers}
 use Rattle.gateway_life.specs.Ready.{Behind}
 
 -- ---- what an event commits begins no day

@@ -7,10 +7,10 @@ use Rattle.outside.specs.Disk.{HasOneImage}
 use Rattle.wires.specs.Told.{GrowsBy}
 use Rattle.order_meaning.specs.declared.names.Names.{Names}
 use Rattle.pair_entries.specs.declared.entry.Entry.{Entry}
-use Rattle.pair_journal.specs.Days.{last_day, past_of, day_at}
-use Rattle.pair_journal.specs.Journal.{DaysGoOn}
-use Rattle.pair_journal.specs.Numbers.{first_numbers}
-use Rattle.pair_journal.proofs.Dating.{past-last}
+use Rattle.kept_entries.specs.Days.{last_day, past_of, day_at}
+use Rattle.kept_entries.specs.Entries.{DaysGoOn}
+use Rattle.kept_entries.specs.Numbers.{first_numbers}
+use Rattle.kept_entries.proofs.Dating.{past-last}
 use Rattle.event_decisions.specs.Days.{is_due, new_day}
 use Rattle.life_laws.specs.Sends.{hang_up_if}
 use Rattle.life_laws.specs.Happens.{World}

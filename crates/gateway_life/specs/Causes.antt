@@ -9,10 +9,10 @@ use Rattle.order_meaning.specs.declared.names.Names.{Names}
 use Rattle.pair_entries.specs.declared.TheConstants.{MAX_NUMBER}
 use Rattle.pair_entries.specs.declared.entry.Entry.{Entry}
 use Rattle.pair_entries.specs.Payload.{IsEntry}
-use Rattle.pair_journal.specs.Days.{last_day, payload_behind}
+use Rattle.kept_entries.specs.Days.{last_day, payload_behind}
 use Rattle.event_decisions.specs.Days.{new_day}
 use Rattle.pair_journal.specs.Calls.{payloads_of}
-use Rattle.pair_journal.specs.Numbers.{numbers_after, first_numbers, next_out}
+use Rattle.kept_entries.specs.Numbers.{numbers_after, first_numbers, next_out}
 use Rattle.event_decisions.specs.Event.{Event}
 use Rattle.event_decisions.specs.Decide.{Sessions, AreSides, numbers_of, Decides, IsDecided}
 use Rattle.message_answers.specs.Answer.{Answers}

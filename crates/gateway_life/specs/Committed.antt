@@ -8,7 +8,7 @@ use Rattle.pair_journal.specs.declared.error.JournalError.{JournalError}
 use Rattle.pair_journal.specs.declared.error.JournalError.TheVariants as errors
 use Rattle.pair_entries.specs.declared.entry.Entry.{Entry}
 use Rattle.pair_entries.specs.Payload.{IsEntry}
-use Rattle.pair_journal.specs.Days.{payload_behind}
+use Rattle.kept_entries.specs.Days.{payload_behind}
 use Rattle.pair_journal.specs.State.{JournalState}
 use Rattle.pair_journal.specs.Calls.{payloads_of}
 

@@ -5,7 +5,7 @@ use Rattle.outside.specs.Disk.{HasOneImage}
 use Rattle.wires.specs.Wire.{WireCall}
 use Rattle.order_meaning.specs.declared.Side.{Side}
 use Rattle.frame_grammar.specs.Held.{Held}
-use Rattle.pair_journal.specs.Days.{past_of}
+use Rattle.kept_entries.specs.Days.{past_of}
 use Rattle.drop_taps.specs.Shown.{TapState}
 use Rattle.event_decisions.specs.Event.{Event}
 use Rattle.gateway_life.specs.declared.end.LifeEnd.{LifeEnd}

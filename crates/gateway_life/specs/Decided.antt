@@ -4,7 +4,7 @@ use Rattle.std.specs.Prelude.{◌≡◌, ℕ, [], List, ◌++◌, Some, None, Ok
 use Rattle.std.specs.declared.option.Option.{Option}
 use Rattle.std.specs.Option.{option_to_list}
 use Rattle.pair_entries.specs.declared.entry.Entry.{Entry}
-use Rattle.pair_journal.specs.Days.{last_day, past_of}
+use Rattle.kept_entries.specs.Days.{last_day, past_of}
 use Rattle.event_decisions.specs.Days.{new_day}
 use Rattle.event_decisions.specs.Decide.{Decides}
 use Rattle.event_decisions.specs.Event.{Event}

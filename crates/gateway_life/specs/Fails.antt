@@ -4,7 +4,7 @@ use Rattle.outside.specs.declared.disk.TheConstants.{MAX_DISK}
 use Rattle.gate_log.specs.Records.{blocks}
 use Rattle.pair_entries.specs.declared.entry.Entry.{Entry}
 use Rattle.pair_entries.specs.Payload.{IsEntry}
-use Rattle.pair_journal.specs.Days.{payload_behind}
+use Rattle.kept_entries.specs.Days.{payload_behind}
 use Rattle.pair_journal.specs.Calls.{payloads_of}
 use Rattle.event_decisions.specs.Days.{new_day}
 use Rattle.order_meaning.specs.declared.names.Names.{Names}

@@ -5,8 +5,8 @@ use Rattle.order_meaning.specs.declared.Side.{Side}
 use Rattle.order_meaning.specs.declared.Side.TheVariants.{Client, Venue}
 use Rattle.order_meaning.specs.declared.names.Names.{Names}
 use Rattle.pair_entries.specs.declared.entry.Entry.{Entry}
-use Rattle.pair_journal.specs.Numbers.{first_numbers}
-use Rattle.pair_journal.specs.Journal.{AreEntries}
+use Rattle.kept_entries.specs.Numbers.{first_numbers}
+use Rattle.kept_entries.specs.Entries.{AreEntries}
 use Rattle.session_frames.specs.Laws.{IsShown}
 use Rattle.message_answers.specs.Answer.{Answers}
 use Rattle.gateway_config.specs.declared.config.Config.{Config}
@@ -16,7 +16,7 @@ use Rattle.session_frames.specs.Frames.{kind_of}
 use Rattle.life_laws.specs.Bodies.{bodies_of}
 use Rattle.life_laws.specs.Forms.{all_placed, form_frame}
 use Rattle.life_laws.specs.Repeats.{repeat_forms}
-use Rattle.pair_journal.specs.Days.{Days, days_of}
+use Rattle.kept_entries.specs.Days.{Days, days_of}
 use Rattle.life_laws.specs.Justified.{Leaves}
 use Rattle.life_laws.specs.Days.{DayEnded, DayLeft, Transcript, LeavesDays, transcript_after}
 use Rattle.life_laws.specs.Days.{days_after}

@@ -6,7 +6,7 @@ use Rattle.order_meaning.specs.declared.Side.TheVariants.{Client, Venue}
 use Rattle.order_meaning.specs.declared.names.Names.{Names}
 use Rattle.pair_entries.specs.declared.TheConstants.{MAX_AT}
 use Rattle.pair_entries.specs.declared.entry.Entry.{Entry}
-use Rattle.pair_journal.specs.Days.{last_day, past_of, day_at}
+use Rattle.kept_entries.specs.Days.{last_day, past_of, day_at}
 use Rattle.pair_journal.specs.Journal.{JournalOf, Unborn, Born, Refused}
 use Rattle.outside.specs.Causes.{next_count}
 use Rattle.std.specs.declared.option.Option.{Option}

@@ -5,7 +5,7 @@ use Rattle.outside.specs.Disk.{Only, HasOneImage}
 use Rattle.gate_log.specs.Log.{OnlyRead}
 use Rattle.order_meaning.specs.declared.names.Names.{Names}
 use Rattle.pair_entries.specs.declared.entry.Entry.{Entry}
-use Rattle.pair_journal.specs.Days.{Days, days_of}
+use Rattle.kept_entries.specs.Days.{Days, days_of}
 use Rattle.pair_journal.specs.Journal.{JournalOf, Born}
 use Rattle.order_meaning.specs.declared.Side.TheVariants.{Client, Venue}
 use Rattle.message_answers.specs.Answer.{Answers}

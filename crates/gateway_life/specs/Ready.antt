@@ -5,9 +5,10 @@ use Rattle.std.specs.Option.{ForSome}
 use Rattle.outside.specs.Disk.{Only}
 use Rattle.order_meaning.specs.declared.names.Names.{Names}
 use Rattle.pair_entries.specs.declared.entry.Entry.{Entry}
-use Rattle.pair_journal.specs.Numbers.{numbers_after, first_numbers}
-use Rattle.pair_journal.specs.Journal.{JournalOf, Born, DaysGoOn}
-use Rattle.pair_journal.specs.Days.{last_day}
+use Rattle.kept_entries.specs.Numbers.{numbers_after, first_numbers}
+use Rattle.kept_entries.specs.Entries.{DaysGoOn}
+use Rattle.pair_journal.specs.Journal.{JournalOf, Born}
+use Rattle.kept_entries.specs.Days.{last_day}
 use Rattle.event_decisions.specs.Decide.{AreSides, numbers_of, Decision}
 use Rattle.message_answers.specs.Chains.{chains_of}
 use Rattle.gateway_core.specs.State.{CoreState, sessions_in}

@@ -9,9 +9,10 @@ use Rattle.order_meaning.specs.declared.Side.TheVariants.{Client, Venue}
 use Rattle.order_meaning.specs.declared.names.Names.{Names}
 use Rattle.pair_entries.specs.declared.entry.Entry.{Entry}
 use Rattle.pair_journal.specs.Calls.{BornOrNot}
-use Rattle.pair_journal.specs.Journal.{JournalOf, Born, Refused, DaysGoOn}
-use Rattle.pair_journal.specs.Numbers.{first_numbers}
-use Rattle.pair_journal.specs.Days.{last_day, past_of, day_at}
+use Rattle.kept_entries.specs.Entries.{DaysGoOn}
+use Rattle.pair_journal.specs.Journal.{JournalOf, Born, Refused}
+use Rattle.kept_entries.specs.Numbers.{first_numbers}
+use Rattle.kept_entries.specs.Days.{last_day, past_of, day_at}
 use Rattle.event_decisions.specs.Days.{is_due, new_day}
 use Rattle.event_decisions.specs.Event.{Event, End}
 use Rattle.message_answers.specs.Answer.{Answers}

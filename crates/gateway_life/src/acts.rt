@@ -2,7 +2,7 @@
 
 ghost use Rattle.std.specs.Prelude.{◌≡◌, false, true};
 ghost use Rattle.std.specs.Option.{ForSome, option_map, option_map_or};
-ghost use Rattle.pair_journal.specs.Numbers.{is_side};
+ghost use Rattle.kept_entries.specs.Numbers.{is_side};
 ghost use Rattle.event_decisions.specs.Event.{side_of};
 ghost use Rattle.event_decisions.specs.Decide.{session_of};
 ghost use Rattle.gateway_core.specs.State.{event_of, sessions_in};

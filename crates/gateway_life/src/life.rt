@@ -8,7 +8,7 @@ ghost use Rattle.outside.specs.Disk.{HasOneImage};
 ghost use Rattle.wires.specs.Told.{GrowsBy, Keeps};
 ghost use Rattle.wires.specs.Wire.{is_within};
 ghost use Rattle.pair_journal.specs.Calls.{BornOrNot};
-ghost use Rattle.pair_journal.specs.Days.{last_day, past_of};
+ghost use Rattle.kept_entries.specs.Days.{last_day, past_of};
 ghost use Rattle.pair_journal.specs.Journal.{JournalOf, Unborn};
 ghost use Rattle.wire_sends.specs.Sent.{Agrees};
 ghost use Rattle.gateway_life.specs.Stepped.{HasCauseOf, AllStepped, Failed, records};

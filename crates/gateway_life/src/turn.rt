@@ -14,7 +14,7 @@ ghost use Rattle.wires.specs.Wire.{Poll, Nothing, Fits, came_of, may_come};
 ghost use Rattle.life_laws.specs.Happens.{up_on};
 ghost use Rattle.life_laws.specs.Turn.{on_side, with_up, up_after, events_of};
 ghost use Rattle.wire_sends.specs.Sent.{Agrees};
-ghost use Rattle.pair_journal.specs.Days.{past_of};
+ghost use Rattle.kept_entries.specs.Days.{past_of};
 ghost use Rattle.gateway_life.specs.Ready.{Ready, world_of, LeavesOf, IfTold, Behind};
 ghost use Rattle.gateway_life.specs.State.{seen};
 ghost use Rattle.gateway_life.specs.Stepped.{Grew, records};

@@ -14,12 +14,12 @@ use Rattle.gate_log.proofs.Blocks.{blocks-append}
 use Rattle.pair_entries.specs.declared.entry.Entry.{Entry}
 use Rattle.pair_entries.specs.Payload.{Next, payload_on}
 use Rattle.pair_entries.specs.Birth.{AreNames}
-use Rattle.pair_journal.specs.Numbers.{GoesOn, first_numbers, numbers_before, numbers_after}
-use Rattle.pair_journal.specs.Days.{day_after, day_number, payload_behind}
-use Rattle.pair_journal.specs.Journal.{DaysGoOn}
+use Rattle.kept_entries.specs.Numbers.{GoesOn, first_numbers, numbers_before, numbers_after}
+use Rattle.kept_entries.specs.Days.{day_after, day_number, payload_behind}
+use Rattle.kept_entries.specs.Entries.{DaysGoOn}
 use Rattle.pair_journal.specs.Calls.{payloads_of}
 use Rattle.pair_journal.proofs.Carrying.{payloads-push}
-use Rattle.pair_journal.proofs.Dating.{day_number-push, DaysGoOn-push, numbers_after-push}
+use Rattle.kept_entries.proofs.Dating.{day_number-push, DaysGoOn-push, numbers_after-push}
 use Rattle.journal_migrate.specs.declared.migrating.MigrateError.{MigrateError}
 use Rattle.journal_migrate.specs.Migrating.{image_of, PutsImage}
 use Rattle.journal_migrate.specs.Walk.{IsBirth, IsNext}

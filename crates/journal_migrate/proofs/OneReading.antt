@@ -9,7 +9,7 @@ use Rattle.gate_log.proofs.Blocks.{Stands-unique}
 use Rattle.gate_log.proofs.Refused.{refused_stands, refused_once}
 use Rattle.pair_entries.specs.declared.entry.Entry.{Entry}
 use Rattle.pair_entries.specs.Payload.{entry_bytes}
-use Rattle.pair_journal.specs.Numbers.{first_numbers}
+use Rattle.kept_entries.specs.Numbers.{first_numbers}
 use Rattle.pair_journal.specs.Journal.{Reading, Unborn, Born, Refused}
 use Rattle.pair_journal.proofs.Walking.{head_of}
 use Rattle.journal_migrate.specs.Format1.{JournalOf1, Spells1, AreSpelt1, Misspells1}

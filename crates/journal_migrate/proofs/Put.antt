@@ -17,7 +17,7 @@ use Rattle.gate_log.specs.State.{LogState}
 use Rattle.gate_log.proofs.Told.{if_some, at_some}
 use Rattle.pair_entries.specs.declared.entry.Entry.{Entry}
 use Rattle.pair_entries.specs.Payload.{Next}
-use Rattle.pair_journal.specs.Numbers.{first_numbers}
+use Rattle.kept_entries.specs.Numbers.{first_numbers}
 use Rattle.pair_journal.specs.Journal.{Reading, Born, Refused}
 use Rattle.pair_journal.specs.Calls.{payloads_of}
 use Rattle.pair_journal.proofs.Walking.{head_of}

@@ -14,11 +14,12 @@ use Rattle.gate_log.proofs.Blocks.{Stands-unique, blocks-append, length-blocks-p
 use Rattle.pair_entries.specs.declared.entry.Entry.{Entry}
 use Rattle.pair_entries.specs.Payload.{Next, entry_bytes}
 use Rattle.pair_entries.specs.Birth.{birth_bytes}
-use Rattle.pair_journal.specs.Numbers.{first_numbers, numbers_after}
-use Rattle.pair_journal.specs.Days.{dated, day_number}
-use Rattle.pair_journal.specs.Journal.{DaysGoOn, Born, Refused}
+use Rattle.kept_entries.specs.Numbers.{first_numbers, numbers_after}
+use Rattle.kept_entries.specs.Days.{dated, day_number}
+use Rattle.kept_entries.specs.Entries.{DaysGoOn}
+use Rattle.pair_journal.specs.Journal.{Born, Refused}
 use Rattle.pair_journal.specs.Calls.{payloads_of}
-use Rattle.pair_journal.proofs.Dating.{dated-split}
+use Rattle.kept_entries.proofs.Dating.{dated-split}
 use Rattle.pair_journal.proofs.Walking.{head_of}
 use Rattle.journal_migrate.specs.Format1.{JournalOf1, birth1_bytes, payloads1_of}
 use Rattle.journal_migrate.specs.Migrating.{image_of}

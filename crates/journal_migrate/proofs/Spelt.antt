@@ -8,8 +8,8 @@ use Rattle.pair_entries.specs.Payload.{Next, entry_bytes}
 use Rattle.pair_entries.specs.Birth.{mark, birth_bytes}
 use Rattle.pair_entries.proofs.Names.{same_birth}
 use Rattle.pair_entries.proofs.Same.{same_entry}
-use Rattle.pair_journal.specs.Numbers.{first_numbers, numbers_after}
-use Rattle.pair_journal.specs.Journal.{DaysGoOn}
+use Rattle.kept_entries.specs.Numbers.{first_numbers, numbers_after}
+use Rattle.kept_entries.specs.Entries.{DaysGoOn}
 use Rattle.pair_journal.proofs.Walking.{head_of}
 use Rattle.journal_migrate.specs.Format1.{birth1_bytes, AreSpelt1}
 use Rattle.journal_migrate.specs.Walk.{Follows1}

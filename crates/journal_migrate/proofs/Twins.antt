@@ -13,9 +13,10 @@ use Rattle.pair_entries.specs.Payload.{Next, entry_bytes}
 use Rattle.pair_entries.specs.Birth.{birth_bytes}
 use Rattle.pair_entries.proofs.Names.{birth_size}
 use Rattle.pair_entries.proofs.Fronts.{entry_short}
-use Rattle.pair_journal.specs.Numbers.{first_numbers}
-use Rattle.pair_journal.specs.Days.{dated, day_after}
-use Rattle.pair_journal.specs.Journal.{DaysGoOn, Born}
+use Rattle.kept_entries.specs.Numbers.{first_numbers}
+use Rattle.kept_entries.specs.Days.{dated, day_after}
+use Rattle.kept_entries.specs.Entries.{DaysGoOn}
+use Rattle.pair_journal.specs.Journal.{Born}
 use Rattle.pair_journal.specs.Calls.{payloads_of}
 use Rattle.journal_migrate.specs.Format1.{JournalOf1, birth1_bytes, payloads1_of}
 use Rattle.journal_migrate.specs.Migrating.{image_of, IsTwin, IsTooLong}

@@ -8,8 +8,9 @@ use Rattle.gate_log.specs.Records.{blocks, Stands, IsRefused}
 use Rattle.pair_entries.specs.declared.entry.Entry.{Entry}
 use Rattle.pair_entries.specs.Payload.{entry_bytes}
 use Rattle.pair_entries.specs.Birth.{name_bytes, AreNames}
-use Rattle.pair_journal.specs.Numbers.{first_numbers}
-use Rattle.pair_journal.specs.Journal.{DaysGoOn, Reading, Unborn, Born, Refused}
+use Rattle.kept_entries.specs.Numbers.{first_numbers}
+use Rattle.kept_entries.specs.Entries.{DaysGoOn}
+use Rattle.pair_journal.specs.Journal.{Reading, Unborn, Born, Refused}
 
 -- the mark of the format
 abbrev pub mark1 : List ℕ

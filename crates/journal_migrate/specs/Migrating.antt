@@ -10,8 +10,9 @@ use Rattle.order_meaning.specs.declared.names.Names.{Names}
 use Rattle.gate_log.specs.Records.{blocks}
 use Rattle.pair_entries.specs.declared.entry.Entry.{Entry}
 use Rattle.pair_entries.specs.Birth.{AreNames}
-use Rattle.pair_journal.specs.Numbers.{first_numbers}
-use Rattle.pair_journal.specs.Journal.{JournalOf, DaysGoOn, Unborn, Born, Refused}
+use Rattle.kept_entries.specs.Numbers.{first_numbers}
+use Rattle.kept_entries.specs.Entries.{DaysGoOn}
+use Rattle.pair_journal.specs.Journal.{JournalOf, Unborn, Born, Refused}
 use Rattle.pair_journal.specs.Calls.{payloads_of}
 use Rattle.journal_migrate.specs.declared.migrating.MigrateError.{MigrateError}
 use Rattle.journal_migrate.specs.declared.migrating.MigrateError.TheVariants as errors

@@ -12,9 +12,10 @@ use Rattle.gate_log.specs.Log.{HasNoPayload}
 use Rattle.pair_entries.specs.declared.entry.Entry.{Entry}
 use Rattle.pair_entries.specs.Payload.{Next, IsEntry, entry_bytes, payload_on}
 use Rattle.pair_entries.specs.Birth.{birth_bytes, AreNames}
-use Rattle.pair_journal.specs.Numbers.{GoesOn, first_numbers, numbers_before, numbers_after}
-use Rattle.pair_journal.specs.Days.{day_after, day_number}
-use Rattle.pair_journal.specs.Journal.{DaysGoOn, Born, Refused}
+use Rattle.kept_entries.specs.Numbers.{GoesOn, first_numbers, numbers_before, numbers_after}
+use Rattle.kept_entries.specs.Days.{day_after, day_number}
+use Rattle.kept_entries.specs.Entries.{DaysGoOn}
+use Rattle.pair_journal.specs.Journal.{Born, Refused}
 use Rattle.pair_journal.specs.Calls.{payloads_of}
 use Rattle.journal_migrate.specs.declared.migrating.MigrateError.{MigrateError}
 use Rattle.journal_migrate.specs.declared.migrating.MigrateError.TheVariants as errors

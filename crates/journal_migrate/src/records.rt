@@ -6,7 +6,7 @@ ghost use Rattle.std.specs.Prelude.{OnOk, IfOk, MatchOption};
 ghost use Rattle.gate_log.specs.Records.{blocks};
 ghost use Rattle.pair_entries.specs.declared.entry.Entry.{Entry};
 ghost use Rattle.pair_entries.specs.Payload.{entry_bytes};
-ghost use Rattle.pair_journal.specs.Days.{day_after};
+ghost use Rattle.kept_entries.specs.Days.{day_after};
 ghost use Rattle.journal_migrate.specs.Format1.{mark1};
 ghost use Rattle.journal_migrate.specs.Walk.{TellsBirth, IsNext, IsNoNext};
 

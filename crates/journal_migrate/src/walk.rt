@@ -6,7 +6,7 @@ ghost use Rattle.std.specs.Option.{ForSome};
 ghost use Rattle.gate_log.specs.Chunk.{IsOf, IsOfAny};
 ghost use Rattle.gate_log.specs.Log.{OnlyReads, StandsOver, ReadsPayload, IsAt};
 ghost use Rattle.gate_log.specs.Records.{Stands};
-ghost use Rattle.pair_journal.specs.Numbers.{first_numbers};
+ghost use Rattle.kept_entries.specs.Numbers.{first_numbers};
 ghost use Rattle.journal_migrate.specs.declared.migrating.MigrateError.TheVariants as errors;
 ghost use Rattle.journal_migrate.specs.Migrating.{FailsBy};
 ghost use Rattle.journal_migrate.specs.Walk.{IsBirth, IsNoBirth, IsNext, IsNoNext};

@@ -3,9 +3,9 @@
 ghost use Rattle.std.specs.Prelude.{◌≡◌, ◌<◌, ◌≤◌, [], ◌∷◌, length, true, false, IfOk};
 ghost use Rattle.std.specs.Option.{ForSome};
 ghost use Rattle.order_meaning.specs.declared.Side.TheVariants as sides;
-ghost use Rattle.pair_journal.specs.Days.{last_day};
+ghost use Rattle.kept_entries.specs.Days.{last_day};
 ghost use Rattle.pair_journal.specs.Journal.{JournalOf, Born};
-ghost use Rattle.pair_journal.specs.Numbers.{GoesOn, first_numbers, numbers_after, numbers_before};
+ghost use Rattle.kept_entries.specs.Numbers.{GoesOn, first_numbers, numbers_after, numbers_before};
 ghost use Rattle.pair_entries.specs.Payload.{AreNext, IsEntry, IsOut, IsTook};
 
 use crate::entries::Next;

@@ -6,7 +6,7 @@ use Rattle.std.specs.List.{flat_map}
 use Rattle.std.specs.Option.{option_to_list}
 use Rattle.std.specs.declared.option.Option.{Option}
 use Rattle.std.proofs.lemmas.List.{map-append}
-use Rattle.pair_journal.specs.Numbers.{is_side}
+use Rattle.kept_entries.specs.Numbers.{is_side}
 use Rattle.pair_entries.specs.declared.entry.Entry.{Entry}
 use Rattle.event_decisions.specs.Decide.{Asked, Words}
 use Rattle.session_frames.specs.Frames.{kind_of}

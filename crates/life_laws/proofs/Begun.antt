@@ -8,7 +8,7 @@ use Rattle.order_meaning.specs.declared.Side.{Side}
 use Rattle.order_meaning.specs.declared.Side.TheVariants.{Client, Venue}
 use Rattle.order_meaning.specs.declared.names.Names.{Names}
 use Rattle.pair_entries.specs.declared.entry.Entry.{Entry}
-use Rattle.pair_journal.specs.Numbers.{next_out, numbers_after, first_numbers}
+use Rattle.kept_entries.specs.Numbers.{next_out, numbers_after, first_numbers}
 use Rattle.event_decisions.specs.Decide.{Asked, Words, Sessions, AreSides, numbers_of, IsDecided}
 use Rattle.event_decisions.specs.Decide.{LawfulAfter, IsLawful}
 use Rattle.wires.specs.Wire.{Connection}

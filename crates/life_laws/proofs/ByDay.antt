@@ -6,7 +6,7 @@ use Rattle.order_meaning.specs.declared.Side.{Side}
 use Rattle.order_meaning.specs.declared.Side.TheVariants.{Client, Venue}
 use Rattle.order_meaning.specs.declared.names.Names.{Names}
 use Rattle.pair_entries.specs.declared.entry.Entry.{Entry}
-use Rattle.pair_journal.specs.Numbers.{first_numbers}
+use Rattle.kept_entries.specs.Numbers.{first_numbers}
 use Rattle.event_decisions.specs.Decide.{Asked, Words, Sessions, AreSides, numbers_of}
 use Rattle.wires.specs.Wire.{WireCall, Connection}
 use Rattle.life_laws.specs.Sends.{hang_up_if}

@@ -10,8 +10,8 @@ use Rattle.order_meaning.specs.declared.Side.TheVariants.{Client, Venue}
 use Rattle.order_meaning.specs.declared.names.Names.{Names}
 use Rattle.pair_entries.specs.declared.entry.Took.{Took}
 use Rattle.pair_entries.specs.declared.entry.Entry.{Entry}
-use Rattle.pair_journal.specs.Numbers.{is_side, outs_to, Numbered, next_out, numbers_after}
-use Rattle.pair_journal.specs.Numbers.{first_numbers, OutsGoOn}
+use Rattle.kept_entries.specs.Numbers.{is_side, outs_to, Numbered, next_out, numbers_after}
+use Rattle.kept_entries.specs.Numbers.{first_numbers, OutsGoOn}
 use Rattle.pair_entries.specs.Payload.{Next}
 use Rattle.event_decisions.specs.Event.{Event, Frame}
 use Rattle.event_decisions.specs.Decide.{Words, Repeat, Sessions, AreSides, Decision, numbers_of}

@@ -13,7 +13,7 @@ use Rattle.order_meaning.specs.declared.Side.TheVariants.{Client, Venue}
 use Rattle.order_meaning.specs.declared.names.Names.{Names}
 use Rattle.pair_entries.specs.declared.entry.Out.{Out}
 use Rattle.pair_entries.specs.declared.entry.Entry.{Entry}
-use Rattle.pair_journal.specs.Numbers.{is_side, Numbered}
+use Rattle.kept_entries.specs.Numbers.{is_side, Numbered}
 use Rattle.wires.specs.Wire.{Connection}
 use Rattle.life_laws.specs.Justified.{first_numbers_of, NotAmong, EachOnce, IsSublist, tooks_of}
 use Rattle.life_laws.specs.Justified.{ShowsAll}

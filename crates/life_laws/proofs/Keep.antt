@@ -10,7 +10,7 @@ use Rattle.order_meaning.specs.declared.Side.{Side}
 use Rattle.order_meaning.specs.declared.names.Names.{Names}
 use Rattle.pair_entries.specs.declared.entry.Out.{Out}
 use Rattle.pair_entries.specs.declared.entry.Entry.{Entry}
-use Rattle.pair_journal.specs.Numbers.{is_side, outs_to, Numbered}
+use Rattle.kept_entries.specs.Numbers.{is_side, outs_to, Numbered}
 use Rattle.event_decisions.specs.Event.{Event, Frame}
 use Rattle.event_decisions.specs.Decide.{Repeat, Decision}
 use Rattle.wires.specs.Wire.{WireCall, Connection}

@@ -6,7 +6,7 @@ use Rattle.std.specs.Prelude.{if◌then◌else◌, slice_get, IsTrue, IsSomeAnd}
 use Rattle.std.specs.declared.option.Option.{Option}
 use Rattle.order_meaning.specs.declared.Side.{Side}
 use Rattle.pair_entries.specs.declared.entry.Entry.{Entry}
-use Rattle.pair_journal.specs.Numbers.{is_side}
+use Rattle.kept_entries.specs.Numbers.{is_side}
 use Rattle.event_decisions.specs.Decide.{Repeat}
 use Rattle.life_laws.specs.Justified.{first_numbers_of}
 use Rattle.life_laws.specs.Forms.{Placed, all_placed, placed, Again, AreForms}

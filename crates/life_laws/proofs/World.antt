@@ -10,7 +10,7 @@ use Rattle.order_meaning.specs.declared.Side.TheVariants.{Client, Venue}
 use Rattle.order_meaning.specs.declared.names.Names.{Names}
 use Rattle.pair_entries.specs.declared.entry.Out.{Out}
 use Rattle.pair_entries.specs.declared.entry.Entry.{Entry}
-use Rattle.pair_journal.specs.Numbers.{outs_to, next_out, numbers_after, first_numbers}
+use Rattle.kept_entries.specs.Numbers.{outs_to, next_out, numbers_after, first_numbers}
 use Rattle.event_decisions.specs.Event.{Event}
 use Rattle.event_decisions.specs.Decide.{Asked, Words, Sessions, AreSides, Decision, Decides}
 use Rattle.event_decisions.specs.Decide.{numbers_of, IsDecided, LawfulAfter, IsLawful}

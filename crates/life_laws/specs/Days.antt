@@ -8,8 +8,8 @@ use Rattle.order_meaning.specs.declared.Side.{Side}
 use Rattle.order_meaning.specs.declared.Side.TheVariants.{Client, Venue}
 use Rattle.order_meaning.specs.declared.names.Names.{Names}
 use Rattle.pair_entries.specs.declared.entry.Entry.{Entry}
-use Rattle.pair_journal.specs.Days.{Days, begun_with}
-use Rattle.pair_journal.specs.Numbers.{first_numbers}
+use Rattle.kept_entries.specs.Days.{Days, begun_with}
+use Rattle.kept_entries.specs.Numbers.{first_numbers}
 use Rattle.event_decisions.specs.Days.{is_due, new_day}
 use Rattle.event_decisions.specs.Decide.{Sessions, AreSides, Asked, Words, numbers_of}
 use Rattle.wires.specs.Wire.{WireCall, Connection}

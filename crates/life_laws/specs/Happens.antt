@@ -11,7 +11,7 @@ use Rattle.session_core.specs.declared.session.Session.{Session}
 use Rattle.session_core.specs.Table as session
 use Rattle.pair_entries.specs.declared.entry.Out.{Out}
 use Rattle.pair_entries.specs.declared.entry.Entry.{Entry}
-use Rattle.pair_journal.specs.Numbers.{is_side, outs_to}
+use Rattle.kept_entries.specs.Numbers.{is_side, outs_to}
 use Rattle.event_decisions.specs.Event.{Event, side_of}
 use Rattle.event_decisions.specs.Decide.{Sessions, Asked, Words, Decision, Decides}
 use Rattle.event_decisions.specs.Decide.{session_of, is_active}

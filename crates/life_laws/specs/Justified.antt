@@ -8,7 +8,7 @@ use Rattle.order_meaning.specs.declared.Side.TheVariants.{Client, Venue}
 use Rattle.order_meaning.specs.declared.names.Names.{Names}
 use Rattle.pair_entries.specs.declared.entry.Took.{Took}
 use Rattle.pair_entries.specs.declared.entry.Entry.{Entry}
-use Rattle.pair_journal.specs.Numbers.{is_side}
+use Rattle.kept_entries.specs.Numbers.{is_side}
 use Rattle.event_decisions.specs.Decide.{Asked, Words, IsLawful}
 use Rattle.wires.specs.Wire.{WireCall, Connection, connections_after}
 use Rattle.life_laws.specs.Bodies.{bodies_read}

@@ -8,7 +8,7 @@ use Rattle.order_meaning.specs.declared.Side.TheVariants.{Client, Venue}
 use Rattle.order_meaning.specs.declared.names.Names.{Names}
 use Rattle.pair_entries.specs.declared.entry.Out.{Out}
 use Rattle.pair_entries.specs.declared.entry.Entry.{Entry}
-use Rattle.pair_journal.specs.Numbers.{numbers_after, first_numbers}
+use Rattle.kept_entries.specs.Numbers.{numbers_after, first_numbers}
 use Rattle.event_decisions.specs.Event.{Event}
 use Rattle.event_decisions.specs.Decide.{Asked, Words, Sessions, AreSides, numbers_of, IsLawful}
 use Rattle.event_decisions.specs.Decide.{Repeat}

@@ -7,7 +7,7 @@ use Rattle.order_meaning.specs.declared.Side.{Side}
 use Rattle.order_meaning.specs.declared.Side.TheVariants.{Client, Venue}
 use Rattle.order_meaning.specs.declared.names.Names.{Names}
 use Rattle.pair_entries.specs.declared.entry.Entry.{Entry}
-use Rattle.pair_journal.specs.Numbers.{is_side, next_out, numbers_after, first_numbers}
+use Rattle.kept_entries.specs.Numbers.{is_side, next_out, numbers_after, first_numbers}
 use Rattle.event_decisions.specs.Event.{Event, Frame}
 use Rattle.event_decisions.specs.Decide.{Asked, Words, AreSides, numbers_of, IsLawful}
 use Rattle.wires.specs.Wire.{Connection}

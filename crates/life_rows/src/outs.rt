@@ -2,9 +2,9 @@
 
 ghost use Rattle.std.specs.Prelude.{◌≡◌};
 ghost use Rattle.std.specs.Option.{ForSome};
-ghost use Rattle.pair_journal.specs.Days.{last_day};
+ghost use Rattle.kept_entries.specs.Days.{last_day};
 ghost use Rattle.pair_journal.specs.Journal.{JournalOf, Born};
-ghost use Rattle.pair_journal.specs.Numbers.{first_numbers, numbers_after, next_out};
+ghost use Rattle.kept_entries.specs.Numbers.{first_numbers, numbers_after, next_out};
 
 use order_meaning::{Name, Names, Side};
 use outside::{Disk, MemDisk};

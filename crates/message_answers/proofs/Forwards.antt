@@ -11,7 +11,7 @@ use Rattle.order_chains.specs.declared.item.ChainItem.{ChainItem}
 use Rattle.pair_entries.specs.declared.entry.Took.{Took}
 use Rattle.pair_entries.specs.declared.entry.Out.{Out}
 use Rattle.pair_entries.specs.declared.entry.Entry.{Entry}
-use Rattle.pair_journal.specs.Given.{source_in}
+use Rattle.kept_entries.specs.Given.{source_in}
 use Rattle.translation.specs.Header.{type_of as type_in}
 use Rattle.event_decisions.specs.Body.{fields_of, first_value, reading_of}
 use Rattle.event_decisions.proofs.Bodies.{bodies_are_read}

@@ -6,8 +6,8 @@ use Rattle.std.specs.Option.{option_to_list}
 use Rattle.order_chains.specs.declared.item.ChainItem.{ChainItem}
 use Rattle.order_chains.specs.Chains.{has_id, with_item}
 use Rattle.pair_entries.specs.declared.entry.Entry.{Entry}
-use Rattle.pair_journal.specs.Days.{last_day}
-use Rattle.pair_journal.proofs.Dating.{last_day-push, last_day-reset}
+use Rattle.kept_entries.specs.Days.{last_day}
+use Rattle.kept_entries.proofs.Dating.{last_day-push, last_day-reset}
 use Rattle.message_answers.specs.Chains.{chains_after, chains_of, if_new, item_in, new_item}
 
 -- one entry more

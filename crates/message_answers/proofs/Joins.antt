@@ -16,7 +16,7 @@ use Rattle.session_core.specs.declared.said.Said.{Said}
 use Rattle.pair_entries.specs.declared.entry.Took.{Took}
 use Rattle.pair_entries.specs.declared.entry.Out.{Out}
 use Rattle.pair_entries.specs.declared.entry.Entry.{Entry}
-use Rattle.pair_journal.specs.Given.{has_letter, is_source, letter_of}
+use Rattle.kept_entries.specs.Given.{has_letter, is_source, letter_of}
 use Rattle.reject_rules.specs.Content.{business_reject}
 use Rattle.reject_rules.specs.Renumbered.{renumbered}
 use Rattle.event_decisions.specs.Body.{reading_of}

@@ -17,9 +17,9 @@ use Rattle.pair_entries.specs.declared.TheConstants.{MAX_NUMBER}
 use Rattle.pair_entries.specs.declared.entry.Took.{Took}
 use Rattle.pair_entries.specs.declared.entry.Out.{Out}
 use Rattle.pair_entries.specs.declared.entry.Entry.{Entry}
-use Rattle.pair_journal.specs.Given.{Given, given, has_letter, is_source, letter_of, letters_to}
-use Rattle.pair_journal.specs.Given.{numbered, source_in, source_of}
-use Rattle.pair_journal.specs.Numbers.{is_side, outs_to}
+use Rattle.kept_entries.specs.Given.{Given, given, has_letter, is_source, letter_of, letters_to}
+use Rattle.kept_entries.specs.Given.{numbered, source_in, source_of}
+use Rattle.kept_entries.specs.Numbers.{is_side, outs_to}
 use Rattle.value_kinds.specs.ValueKind.{Id}
 use Rattle.row_values.specs.Kinds.{Value, judge, said}
 use Rattle.sound_laws.proofs.Each.{each_joined, not_true}

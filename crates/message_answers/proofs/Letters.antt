@@ -5,7 +5,7 @@ use Rattle.std.specs.List.{list_all, list_any}
 use Rattle.std.proofs.lemmas.Bool.Decides.{nat_tests}
 use Rattle.message_tables.specs.Tables.{◌>>=◌, is_one_of}
 use Rattle.order_meaning.specs.declared.Side.{Side}
-use Rattle.pair_journal.specs.Given.{letters_to}
+use Rattle.kept_entries.specs.Given.{letters_to}
 use Rattle.sound_laws.proofs.Each.{all_true, one_of}
 use Rattle.message_answers.specs.Chains.{joining}
 

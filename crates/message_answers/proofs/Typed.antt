@@ -9,7 +9,7 @@ use Rattle.field_groups.specs.declared.fault.SplitFault.{SplitFault}
 use Rattle.field_groups.specs.declared.fault.SplitFault.TheVariants.{NoEnd}
 use Rattle.field_groups.specs.Field.{is_soh}
 use Rattle.field_groups.specs.Fields.{has_soh, has_tag, is_tag_good}
-use Rattle.pair_journal.specs.Given.{has_letter}
+use Rattle.kept_entries.specs.Given.{has_letter}
 use Rattle.event_decisions.specs.Body.{Reading, reading_of, read_from, first_value, type_of, behind}
 use Rattle.event_decisions.specs.Body.{fault_unless, front_fault, front_field, front_length}
 

@@ -10,7 +10,7 @@ use Rattle.order_chains.specs.declared.item.ChainItem.{ChainItem}
 use Rattle.order_chains.specs.Chains.{has_id}
 use Rattle.pair_entries.specs.declared.entry.Out.{Out}
 use Rattle.pair_entries.specs.declared.entry.Entry.{Entry}
-use Rattle.pair_journal.specs.Given.{source_in}
+use Rattle.kept_entries.specs.Given.{source_in}
 use Rattle.event_decisions.specs.Body.{reading_of}
 
 -- the requests whose ClOrdIDs are kept: New Order (D), Cancel (F), Cancel/Replace (G)

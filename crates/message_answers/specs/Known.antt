@@ -7,7 +7,7 @@ use Rattle.order_meaning.specs.declared.refusal.Refusal.{Refusal}
 use Rattle.order_chains.specs.declared.item.ChainItem.{ChainItem}
 use Rattle.order_chains.specs.Chains.{number_of}
 use Rattle.pair_entries.specs.declared.entry.Entry.{Entry}
-use Rattle.pair_journal.specs.Given.{source_of}
+use Rattle.kept_entries.specs.Given.{source_of}
 use Rattle.message_answers.specs.Chains.{chains_of}
 
 pub record Known : Type 0 where

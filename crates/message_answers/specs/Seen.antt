@@ -17,8 +17,8 @@ use Rattle.order_chains.specs.declared.item.ChainItem.{ChainItem}
 use Rattle.session_core.specs.declared.said.Said.{Said}
 use Rattle.pair_entries.specs.declared.TheConstants.{MAX_CONTENT, MAX_TYPE}
 use Rattle.pair_entries.specs.declared.entry.Entry.{Entry}
-use Rattle.pair_journal.specs.Given.{source_of}
-use Rattle.pair_journal.specs.Days.{last_day}
+use Rattle.kept_entries.specs.Given.{source_of}
+use Rattle.kept_entries.specs.Days.{last_day}
 use Rattle.refusal_parts.specs.Said.{business_reject_says, session_reject_says}
 use Rattle.reject_rules.specs.Refusals.{refusal_of}
 use Rattle.reject_rules.specs.Renumbered.{renumbered}

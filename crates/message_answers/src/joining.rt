@@ -3,7 +3,7 @@
 ghost use Rattle.std.specs.Prelude.{◌≡◌, ◌++◌, [], IfOk, OnOk, unwrap_or};
 ghost use Rattle.std.specs.Option.{option_map, option_to_list};
 ghost use Rattle.message_tables.specs.Tables.{first_of};
-ghost use Rattle.pair_journal.specs.Days.{last_day};
+ghost use Rattle.kept_entries.specs.Days.{last_day};
 ghost use Rattle.event_decisions.specs.Body.{fields_of};
 ghost use Rattle.row_values.specs.Kinds as kinds;
 ghost use Rattle.value_kinds.specs.ValueKind as value_kinds;
@@ -11,10 +11,11 @@ ghost use Rattle.message_answers.specs.Chains.{joining_letter, item_said, origin
 ghost use Rattle.message_answers.specs.Chains.{new_item, chains_of};
 
 use field_groups::value_of;
+use kept_entries::source_in;
 use message_tables::Lookup;
 use order_chains::{Chains, ItemRef};
 use pair_entries::{EntryRef, OutRef};
-use pair_journal::{Reader, source_in};
+use pair_journal::Reader;
 use row_values::text;
 use std::alloc::{AllocError, Global};
 use value_kinds::ValueKind::Id;
@@ -145,5 +146,9 @@ impl Reader for Joining {
             return Ok(());
         }
         join(&mut self.chains, entry)
+    }
+
+    fn restart(&mut self) {
+        self.chains.clear();
     }
 }

@@ -16,14 +16,26 @@ use Rattle.gate_log.proofs.Told.{if_some, at_some}
 use Rattle.pair_entries.specs.declared.entry.Entry.{Entry}
 use Rattle.pair_entries.specs.Payload.{Next, IsEntry, payload_on}
 use Rattle.pair_entries.specs.Prepared.{OnDay}
-use Rattle.pair_entries.specs.Birth.{birth_bytes}
-use Rattle.pair_journal.specs.Numbers.{GoesOn, first_numbers, numbers_before, numbers_after}
-use Rattle.pair_journal.specs.Days.{last_day, day_after, day_number, payload_behind}
-use Rattle.pair_journal.specs.Journal.{DaysGoOn, Spells, JournalOf, Born}
+use Rattle.pair_entries.specs.Birth.{birth_bytes, AreNames}
+use Rattle.pair_entries.proofs.Names.{birth_size}
+use Rattle.kept_entries.specs.Numbers.{GoesOn, first_numbers, numbers_before, numbers_after}
+use Rattle.kept_entries.specs.Days.{last_day, day_after, day_number, dated, payload_behind}
+use Rattle.kept_entries.specs.Entries.{DaysGoOn}
+use Rattle.kept_entries.specs.Spots.{end_of}
+use Rattle.pair_journal.specs.Journal.{Spells, JournalOf, Born}
 use Rattle.pair_journal.specs.State.{JournalState}
 use Rattle.pair_journal.specs.Calls.{payloads_of, KeepsJournal}
 use Rattle.pair_journal.specs.Loading.{HasExtent}
-use Rattle.pair_journal.proofs.Dating.{dated-push, length-dated, DaysGoOn-push, last_numbers}
+use Rattle.kept_entries.proofs.Dating.{dated-push, length-dated, DaysGoOn-push, last_numbers}
+
+-- where the records of a journal end
+pub place_is : (names : Names) (entries : List Entry)
+    → AreNames names → length (blocks (payloads_of names entries)) ≡ end_of entries
+place_is names entries named = omega (
+  arith,
+  birth_size names named,
+  length-append (birth_bytes names) (blocks (dated 0 entries)),
+)
 
 pub payloads-push : (names : Names) (entries : List Entry) (entry : Entry) → payloads_of
     names entries ++ payload_behind entries entry ∷ [] ≡ payloads_of names (entries ++ entry ∷ [])

@@ -1,13 +1,8 @@
-pub mod Worked
-pub mod Giving
 pub mod Carrying
 pub mod Walking
 pub mod OneReading
 pub mod Reading
 pub mod Loaded
-pub mod Marking
-pub mod Noting
 pub mod Standing
-pub mod Finding
 pub mod Adding
-pub mod Dating
+pub mod Fronts

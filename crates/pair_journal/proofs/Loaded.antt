@@ -4,7 +4,7 @@ use Rattle.std.proofs.Common.{IfSome, IfOk, Ok, Err, arith, length-append}
 use Rattle.std.specs.Prelude.{Result, OnOk}
 use Rattle.std.specs.Option.{ForSome}
 use Rattle.std.specs.declared.option.Option.{Option}
-use Rattle.outside.specs.Disk.{Only, AreAmong}
+use Rattle.outside.specs.Disk.{Only, AreAmong, HasOneImage}
 use Rattle.order_meaning.specs.declared.names.Names.{Names}
 use Rattle.gate_log.specs.Records.{Stands}
 use Rattle.gate_log.specs.Log as log
@@ -13,13 +13,14 @@ use Rattle.gate_log.proofs.Told.{if_some, at_some}
 use Rattle.pair_entries.specs.declared.entry.Entry.{Entry}
 use Rattle.pair_journal.specs.declared.error.JournalError.{JournalError}
 use Rattle.pair_journal.specs.declared.error.JournalError.TheVariants as errors
-use Rattle.pair_journal.specs.Days.{dated}
+use Rattle.kept_entries.specs.Days.{dated}
 use Rattle.pair_entries.specs.Birth.{birth_bytes, AreNames}
 use Rattle.pair_journal.specs.Journal.{JournalOf, Unborn, Born}
 use Rattle.pair_journal.specs.State.{JournalState}
 use Rattle.pair_journal.specs.Calls.{Loads, BornOrNot, ReadsOnly}
 use Rattle.pair_journal.specs.Loading.{Tells, HasNames, HasExtent}
 use Rattle.pair_entries.proofs.Names.{birth_size}
+use Rattle.pair_journal.proofs.Walking.{only_read_on}
 
 -- ---- a disk that is only read
 
@@ -164,3 +165,29 @@ images_born names told before after named born = if_some told _ (λ b e only ima
   where
     some : (x : List ℕ) (xs : List (List ℕ)) → [] ≡ x ∷ xs → ⊥
     some x xs is = absurd (cc is)
+
+-- ---- a disk that was read before, and then loaded
+
+pub one_still : (told read : Option (List ℕ)) (before between : List ℕ → Type 0)
+    → log.OnlyRead told read before between → HasOneImage told before → HasOneImage read between
+one_still told read before between only_read one = if_some read _ (λ b e image left.
+    at_some told (λ x. Only x before) b (sym only_read.same ∙ e) one image
+    (only_read.images image left))
+
+pub unborn_behind : (told read after : Option (List ℕ)) (i j k : List ℕ → Type 0)
+    → log.OnlyRead told read i j
+    → IfSome read (λ b. JournalOf b Unborn ⊎ log.OnlyRead read after j k)
+    → IfSome told (λ b. JournalOf b Unborn ⊎ log.OnlyRead told after i k)
+unborn_behind told read after i j k one either = if_some told _ (λ b e.
+    elim (at_some read (λ x. JournalOf x Unborn ⊎ log.OnlyRead read after j k) b
+    (one.same ∙ e) either) [
+      | inl unborn ↦ inl unborn
+      | inr two ↦ inr (only_read_on told read after i j k one two)
+    ])
+
+pub on_ok_one : {T E : Type 0} (told read : Option (List ℕ)) (before between : List ℕ → Type 0)
+    (Q : Type 0) (r : Result T E) → log.OnlyRead told read before between
+    → OnOk r (HasOneImage read between → Q) → OnOk r (HasOneImage told before → Q)
+on_ok_one told read before between Q (Ok x) only_read one =
+    λ had. one (one_still told read before between only_read had)
+on_ok_one told read before between Q (Err e) only_read one = tt

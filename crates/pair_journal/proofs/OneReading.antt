@@ -9,9 +9,10 @@ use Rattle.gate_log.proofs.Refused.{refused_stands, refused_once}
 use Rattle.pair_entries.specs.declared.entry.Entry.{Entry}
 use Rattle.pair_entries.specs.Payload.{Next, IsEntry, payload_on}
 use Rattle.pair_entries.specs.Birth.{birth_bytes}
-use Rattle.pair_journal.specs.Numbers.{GoesOn, first_numbers, numbers_before, numbers_after}
-use Rattle.pair_journal.specs.Days.{dated, day_after}
-use Rattle.pair_journal.specs.Journal.{DaysGoOn, Spells, IsMisspelt, Misspells, Reading, Unborn}
+use Rattle.kept_entries.specs.Numbers.{GoesOn, first_numbers, numbers_before, numbers_after}
+use Rattle.kept_entries.specs.Days.{dated, day_after}
+use Rattle.kept_entries.specs.Entries.{DaysGoOn}
+use Rattle.pair_journal.specs.Journal.{Spells, IsMisspelt, Misspells, Reading, Unborn}
 use Rattle.pair_journal.specs.Journal.{Born, Refused, JournalOf}
 use Rattle.pair_entries.proofs.Names.{same_birth}
 use Rattle.pair_journal.proofs.Walking.{head_of, same_entries}

@@ -21,23 +21,25 @@ use Rattle.std.specs.Int.{w32, to_be_bytes}
 use Rattle.pair_entries.specs.Parts.{front_bytes, IsFront}
 use Rattle.pair_entries.proofs.Same.{front_is}
 use Rattle.pair_entries.specs.Birth.{birth_bytes, AreNames}
-use Rattle.pair_journal.specs.Numbers.{GoesOn, next_out, numbers_before, numbers_after}
-use Rattle.pair_journal.specs.Numbers.{first_numbers, outs_to}
-use Rattle.pair_journal.specs.Days.{last_day, past_of, day_after, day_number, dated, payload_behind}
-use Rattle.pair_journal.specs.Journal.{AreEntries, DaysGoOn, JournalOf, Born}
-use Rattle.pair_journal.specs.Given.{Given, numbered, given_in, given}
+use Rattle.kept_entries.specs.Numbers.{GoesOn, next_out, numbers_before, numbers_after}
+use Rattle.kept_entries.specs.Numbers.{first_numbers, outs_to}
+use Rattle.kept_entries.specs.Days.{last_day, past_of, day_after, day_number, dated, payload_behind}
+use Rattle.kept_entries.specs.Entries.{AreEntries, DaysGoOn}
+use Rattle.pair_journal.specs.Journal.{JournalOf, Born}
+use Rattle.kept_entries.specs.Given.{Given, numbered, given_in, given}
 use Rattle.pair_journal.specs.Calls.{payloads_of, OnlyReading, RefusedUntold}
 use Rattle.pair_journal.specs.Loading.{HasExtent, Unread, IsPayload}
 use Rattle.pair_journal.specs.declared.error.JournalError.{JournalError}
 use Rattle.pair_journal.specs.declared.error.JournalError.TheVariants as errors
 use Rattle.pair_journal.specs.OutBuf.{OutAt, IsGivenAs}
-use Rattle.pair_journal.specs.Spots.{behind, day_start, IsSpot, StandsAt, HoldsOut}
-use Rattle.pair_journal.specs.declared.spot.Spot.{Spot}
-use Rattle.pair_journal.proofs.Dating.{entry_at, dated-split, before_more, last_is_sound, entry_in}
-use Rattle.pair_journal.proofs.Dating.{numbers_at}
-use Rattle.pair_journal.proofs.Giving.{not_past, above_entry, among, goes, first_is_1}
-use Rattle.pair_journal.proofs.Giving.{behind as behind_is, here as here_is}
-use Rattle.pair_journal.proofs.Marking.{place_is, behind_push, rise_take}
+use Rattle.kept_entries.specs.Spots.{behind, day_start, IsSpot, StandsAt, HoldsOut}
+use Rattle.kept_entries.specs.declared.spot.Spot.{Spot}
+use Rattle.kept_entries.proofs.Dating.{entry_at, dated-split, before_more, last_is_sound, entry_in}
+use Rattle.kept_entries.proofs.Dating.{numbers_at}
+use Rattle.kept_entries.proofs.Giving.{not_past, above_entry, among, goes, first_is_1}
+use Rattle.kept_entries.proofs.Giving.{behind as behind_is, here as here_is}
+use Rattle.pair_journal.proofs.Carrying.{place_is}
+use Rattle.kept_entries.proofs.Marking.{behind_push, rise_take}
 use Rattle.pair_journal.proofs.Reading.{at_within}
 
 -- ---- the entry of an index, among them

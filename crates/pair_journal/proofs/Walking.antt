@@ -8,17 +8,18 @@ use Rattle.gate_log.specs.Log.{IsAt, OnlyRead}
 use Rattle.pair_entries.specs.declared.entry.Entry.{Entry}
 use Rattle.pair_entries.specs.Payload.{Next, entry_bytes, payload_on}
 use Rattle.pair_entries.specs.Birth.{birth_bytes, AreNames}
-use Rattle.pair_journal.specs.Numbers.{GoesOn, first_numbers, numbers_before, numbers_after}
-use Rattle.pair_journal.specs.Days.{dated, day_after, day_number}
-use Rattle.pair_journal.specs.Journal.{DaysGoOn, Misspells}
+use Rattle.kept_entries.specs.Numbers.{GoesOn, first_numbers, numbers_before, numbers_after}
+use Rattle.kept_entries.specs.Days.{dated, day_after, day_number}
+use Rattle.kept_entries.specs.Entries.{DaysGoOn}
+use Rattle.pair_journal.specs.Journal.{Misspells}
 use Rattle.pair_journal.specs.Calls.{payloads_of}
 use Rattle.pair_journal.specs.Loading.{IsBorn, Follows}
 use Rattle.pair_entries.proofs.Same.{same_entry}
 use Rattle.pair_journal.proofs.Carrying.{payloads-push}
-use Rattle.pair_journal.proofs.Dating.{length-dated}
-use Rattle.pair_journal.proofs.Marking.{place_is}
-use Rattle.pair_journal.specs.Spots.{behind}
-use Rattle.pair_journal.specs.declared.spot.Spot.{Spot}
+use Rattle.kept_entries.proofs.Dating.{length-dated}
+use Rattle.pair_journal.proofs.Carrying.{place_is}
+use Rattle.kept_entries.specs.Spots.{behind}
+use Rattle.kept_entries.specs.declared.spot.Spot.{Spot}
 
 -- ---- the first payload
 

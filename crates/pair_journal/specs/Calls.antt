@@ -14,7 +14,7 @@ use Rattle.gate_log.specs.Log.{HasRoom}
 use Rattle.pair_journal.specs.declared.error.JournalError.{JournalError}
 use Rattle.pair_journal.specs.declared.error.JournalError.TheVariants as errors
 use Rattle.pair_entries.specs.declared.entry.Entry.{Entry}
-use Rattle.pair_journal.specs.Days.{dated, payload_behind}
+use Rattle.kept_entries.specs.Days.{dated, payload_behind}
 use Rattle.pair_entries.specs.Birth.{birth_bytes}
 use Rattle.pair_journal.specs.Journal.{Unborn, Born, Refused, JournalOf}
 use Rattle.pair_journal.specs.State.{JournalState}

@@ -3,22 +3,11 @@ use Rattle.std.specs.Prelude.{◌≡◌, ◌⊎◌, ℕ, List, [], ◌∷◌, �
 use Rattle.order_meaning.specs.declared.names.Names.{Names}
 use Rattle.gate_log.specs.Records.{blocks, Stands, IsRefused}
 use Rattle.pair_entries.specs.declared.entry.Entry.{Entry}
-use Rattle.pair_entries.specs.Payload.{Next, IsEntry}
+use Rattle.pair_entries.specs.Payload.{IsEntry}
 use Rattle.pair_entries.specs.Birth.{birth_bytes, AreNames}
-use Rattle.pair_journal.specs.Numbers.{GoesOn, first_numbers, numbers_before, numbers_after}
-use Rattle.pair_journal.specs.Days.{dated, payload_behind}
-
--- entries within their bounds, whose numbers go on; of a day these are all
-abbrev pub AreEntries : Next → List Entry → Type 0
-AreEntries before [] = Unit {0}
-AreEntries before (entry ∷ entries) =
-    IsEntry entry × GoesOn before entry × AreEntries entry.next entries
-
--- the same of entries over days: with each day the numbers begin anew
-abbrev pub DaysGoOn : Next → List Entry → Type 0
-DaysGoOn before [] = Unit {0}
-DaysGoOn before (entry ∷ entries) =
-    IsEntry entry × GoesOn (numbers_before before entry) entry × DaysGoOn entry.next entries
+use Rattle.kept_entries.specs.Numbers.{GoesOn, first_numbers, numbers_before, numbers_after}
+use Rattle.kept_entries.specs.Entries.{DaysGoOn}
+use Rattle.kept_entries.specs.Days.{dated, payload_behind}
 
 -- these payloads are those of a journal of these names and entries
 pub record Spells (payloads : List (List ℕ)) (names : Names) (entries : List Entry) : Type 0 where

@@ -1,15 +1,7 @@
-pub mod Days
-pub mod Numbers
 pub mod Journal
 pub mod Laws
 pub mod State
-pub mod Past
-pub mod Given
-pub mod Spots
 pub mod Walks
-pub mod Sources
-pub mod Kept
-pub mod Reached
 pub mod OutBuf
 pub mod Buffer
 pub mod Calls

@@ -1,19 +1,21 @@
 -- Inside: what reading a log's payloads answers.
-use Rattle.std.specs.Prelude.{◌≡◌, ◌≢◌, ℕ, ◌+◌, List, ◌∷◌, length, IfSome, Result, Ok, Err}
+use Rattle.std.specs.Prelude.{◌≡◌, ◌≢◌, ℕ, ◌+◌, List, ◌∷◌, ◌++◌, length, drop, IfSome, Result}
+use Rattle.std.specs.Prelude.{Ok, Err}
 use Rattle.std.specs.declared.option.Option.{Option}
 use Rattle.order_meaning.specs.declared.names.Names.{Names}
-use Rattle.gate_log.specs.Records.{blocks, Stands}
+use Rattle.gate_log.specs.Records.{blocks, Stands, AllFit}
 use Rattle.gate_log.specs.Log.{HasNoPayload}
 use Rattle.gate_log.specs.State.{LogState}
 use Rattle.pair_journal.specs.declared.error.JournalError.{JournalError}
 use Rattle.pair_journal.specs.declared.error.JournalError.TheVariants as errors
 use Rattle.pair_entries.specs.declared.entry.Entry.{Entry}
 use Rattle.pair_entries.specs.Payload.{Next, IsEntry, payload_on}
-use Rattle.pair_journal.specs.Numbers.{GoesOn, numbers_before}
-use Rattle.pair_journal.specs.Days.{day_after}
+use Rattle.kept_entries.specs.Numbers.{GoesOn, numbers_before}
+use Rattle.kept_entries.specs.Days.{day_after}
 use Rattle.pair_entries.specs.Birth.{birth_bytes, AreNames}
 use Rattle.pair_journal.specs.Journal.{JournalOf, Born}
 use Rattle.pair_journal.specs.Calls.{Looks, payloads_of}
+use Rattle.kept_entries.specs.Spots.{end_of}
 use Rattle.pair_journal.specs.State.{JournalState}
 
 -- payloads of which the first names these
@@ -63,3 +65,8 @@ HasNames names journal (Ok answer) = (answer ≡ journal) × (journal.names ≡ 
 HasNames names journal (Err (errors.NamesDiffer kept given)) =
     (kept ≡ journal.names) × (given ≡ names) × (kept ≢ names)
 HasNames names journal (Err other) = ⊥
+
+-- bytes begin with the records of a journal of these names and entries
+pub record IsFront (bytes : List ℕ) (names : Names) (entries : List Entry) : Type 0 where
+  pub split : bytes ≡ blocks (payloads_of names entries) ++ drop (end_of entries) bytes
+  pub fit : AllFit (payloads_of names entries)

@@ -1,7 +1,7 @@
 -- Own: an out with the moment of its entry, as a buffer holds it.
 use Rattle.std.specs.Prelude.{◌≡◌, ℕ, ◌≤◌, List, Bool, true, false, length, Some, None}
 use Rattle.std.specs.declared.option.Option.{Option}
-use Rattle.pair_journal.specs.Given.{Given}
+use Rattle.kept_entries.specs.Given.{Given}
 use Rattle.pair_entries.specs.declared.TheConstants.{MAX_AT, MAX_TYPE, MAX_CONTENT}
 use Rattle.pair_entries.specs.declared.entry.Out.{Out}
 

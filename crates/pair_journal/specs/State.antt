@@ -10,9 +10,3 @@ pub record JournalState : Type 0 where
   pub broken : Bool
   -- for so many commits there is room
   pub spare : ℕ
-
--- what a journal keeps of its entries
-pub record KeptState : Type 0 where
-  pub entries : List Entry
-  -- for so many entries there is room
-  pub spare : ℕ

@@ -5,8 +5,8 @@ use Rattle.std.specs.declared.option.Option.{Option}
 use Rattle.order_meaning.specs.declared.Side.{Side}
 use Rattle.gate_log.specs.Chunk.{IsOf}
 use Rattle.pair_entries.specs.declared.entry.Entry.{Entry}
-use Rattle.pair_journal.specs.Numbers.{next_out}
-use Rattle.pair_journal.specs.Spots.{day_start, IsSpot}
+use Rattle.kept_entries.specs.Numbers.{next_out}
+use Rattle.kept_entries.specs.Spots.{day_start, IsSpot}
 use Rattle.pair_journal.specs.declared.walk.Walk.{Walk}
 
 -- What a walk read last are bytes that the disk tells, and it has not passed the entry of this

@@ -10,17 +10,18 @@ ghost use Rattle.gate_log.specs.Records.{IsUnborn};
 ghost use Rattle.gate_log.specs.Log.{OnlyReads, StandsOver};
 ghost use Rattle.gate_log.specs.Chunk.{IsOf};
 ghost use Rattle.pair_journal.specs.declared.error.JournalError.TheVariants as errors;
-ghost use Rattle.pair_journal.specs.declared.spot.Spot.{Spot};
+ghost use Rattle.kept_entries.specs.declared.spot.Spot.{Spot};
 ghost use Rattle.pair_entries.specs.declared.entry.Entry.{Entry};
 ghost use Rattle.pair_entries.specs.Payload.{AreNext, IsEntry};
 ghost use Rattle.pair_entries.specs.Birth.{AreNames};
-ghost use Rattle.pair_journal.specs.Numbers.{GoesOn, first_numbers, numbers_before, numbers_after};
-ghost use Rattle.pair_journal.specs.Numbers.{next_out, outs_to};
-ghost use Rattle.pair_journal.specs.Journal.{JournalOf, Unborn, Born, DaysGoOn};
-ghost use Rattle.pair_journal.specs.Days.{last_day, day_after, day_at};
+ghost use Rattle.kept_entries.specs.Numbers.{GoesOn, first_numbers, numbers_before, numbers_after};
+ghost use Rattle.kept_entries.specs.Numbers.{next_out, outs_to};
+ghost use Rattle.kept_entries.specs.Entries.{DaysGoOn};
+ghost use Rattle.pair_journal.specs.Journal.{JournalOf, Unborn, Born};
+ghost use Rattle.kept_entries.specs.Days.{last_day, day_after, day_at};
 ghost use Rattle.pair_entries.specs.declared.TheConstants.{MAX_AT};
-ghost use Rattle.pair_journal.specs.Given.{numbered, given_in, given, source_of};
-ghost use Rattle.pair_journal.specs.Spots.{IsSpot, StandsAt};
+ghost use Rattle.kept_entries.specs.Given.{numbered, given_in, given, source_of};
+ghost use Rattle.kept_entries.specs.Spots.{IsSpot, StandsAt};
 ghost use Rattle.pair_journal.specs.Walks.{IsWalk};
 ghost use Rattle.pair_journal.specs.OutBuf.{IsGivenAs, IsOutAt, TellsIf};
 ghost use Rattle.pair_journal.specs.Buffer.{out_told, IsRoomy};
@@ -28,18 +29,14 @@ ghost use Rattle.pair_journal.specs.Calls.{HasDiskCause, ReadsOnly, Looks, Loads
 ghost use Rattle.pair_journal.specs.Calls.{Commits, KeepsJournal, OnlyReading, RefusedUntold};
 ghost use Rattle.pair_journal.specs.Loading.{HasNames, Tells, IsMisread, IsPayload};
 
-use crate::given::out_in;
-use crate::kept::Kept;
-use crate::loading::{read_log, read_record};
-use crate::numbers::{day_after, next_out};
+use crate::loading::{read_log, read_record, whole_entries};
 use crate::out_buf::OutTold;
-use crate::reached::Keeper;
-use crate::spot::{STRIDE, Spot, later};
 use crate::{JournalError, Look, OutBuf, Reader};
 use gate_log::{Chunk, Log, u32_front};
+use kept_entries::{Keeper, Kept, STRIDE, Spot, day_after, later, next_out, out_in};
 use order_meaning::{Names, Side};
 use outside::Disk;
-use pair_entries::{Entry, Prepared, are_names, front_of, same_names, write_birth};
+use pair_entries::{Entry, Prepared, are_names, front_of, read_birth, same_names, write_birth};
 use std::alloc::Global;
 use std::marker::Model;
 
@@ -179,6 +176,75 @@ impl Journal {
         }
     }
 
+    /// The journal on a disk, where it is whole: it is read once, and its entries are shown to a
+    /// reader. None where anything of it is not of the right form, and where the disk is unborn;
+    /// then the reader may have been shown some, too.
+    fn whole<D: Disk, R: Reader>(
+        alloc: Global,
+        disk: &mut D,
+        reader: &mut R,
+    ) -> Result<Option<Journal>, JournalError>
+        ensures ok { IfOk result (λ found. IfSome found (λ journal.
+            Tells (D.bytes disk.old) journal.names journal.entries)) }
+        ensures unbroken { IfOk result (λ found. IfSome found (λ journal.
+            journal.broken ≡ false)) }
+        ensures shown { IfOk result (λ found. IfSome found (λ journal.
+            R.shown reader.old [] → R.shown reader.new journal.entries)) }
+        ensures only_read { OnlyReads D.bytes D.image disk.old disk.new }
+        ensures cause { HasDiskCause (D.faults disk.old) (D.faults disk.new) result }
+        ensures only { ReadsOnly result }
+    {
+        let mut chunk = Chunk::new(alloc)?;
+        if !chunk.seek(disk, 0)? {
+            return Ok(None);
+        }
+        let Some(names) = read_birth(chunk.payload()) else {
+            return Ok(None);
+        };
+        let keeper = Kept::new(alloc);
+        let Some(kept) = whole_entries(&names, disk, &mut chunk, reader, keeper)? else {
+            return Ok(None);
+        };
+        let end = kept.end();
+        let log = Log::of(alloc, end.index + 1, end.place);
+        Ok(Some(Journal { log, names, kept }))
+    }
+
+    /// The same, gate by gate and then entry by entry, so that it is told where a disk is refused.
+    fn load_judged<D: Disk, R: Reader>(
+        alloc: Global,
+        disk: &mut D,
+        names: &Names,
+        reader: &mut R,
+    ) -> Result<Journal, JournalError>
+        ensures loads { IfSome (D.bytes disk.old) (λ b.
+            Loads names.now b result (D.bytes disk.new)) }
+        ensures stands { IfOk result (λ journal. ForSome (D.bytes disk.new) (λ b.
+            JournalOf b (Born journal.names journal.entries))) }
+        ensures images { BornOrNot (D.bytes disk.old)
+            (D.image disk.old) (D.image disk.new) names.now }
+        ensures durable { OnOk result (HasOneImage (D.bytes disk.old) (D.image disk.old) →
+            HasOneImage (D.bytes disk.new) (D.image disk.new)) }
+        ensures named { IfOk result (λ journal. journal.names ≡ names.now) }
+        ensures whole { IfOk result (λ journal. journal.broken ≡ false) }
+        ensures shown { IfOk result (λ journal.
+            R.shown reader.old [] → R.shown reader.new journal.entries) }
+        ensures only_unborn_is_written { IfSome (D.bytes disk.old) (λ b.
+            JournalOf b Unborn ⊎ OnlyReads D.bytes D.image disk.old disk.new) }
+        ensures refused_only_reads { (at : ℕ) → result ≡ Err (errors.Refused at) →
+            OnlyReads D.bytes D.image disk.old disk.new }
+        ensures differ_only_reads { (kept given : Names) →
+            result ≡ Err (errors.NamesDiffer kept given) →
+            OnlyReads D.bytes D.image disk.old disk.new }
+        ensures told { is_some (D.bytes disk.new) ≡ is_some (D.bytes disk.old) }
+        ensures cause { HasDiskCause (D.faults disk.old) (D.faults disk.new) result }
+    {
+        match Log::look(alloc, disk)? {
+            Some(log) => Journal::of_names(alloc, disk, log, names, reader),
+            None => Journal::begin(alloc, disk, names),
+        }
+    }
+
     /// The journal of these names on a disk. An unborn disk becomes one without entries. Each entry
     /// is shown to a reader as it is read.
     ///
@@ -215,10 +281,12 @@ impl Journal {
         ensures told { is_some (D.bytes disk.new) ≡ is_some (D.bytes disk.old) }
         ensures cause { HasDiskCause (D.faults disk.old) (D.faults disk.new) result }
     {
-        match Log::look(alloc, disk)? {
-            Some(log) => Journal::of_names(alloc, disk, log, names, reader),
-            None => Journal::begin(alloc, disk, names),
+        // One walk, where nothing is to be refused.
+        if let Some(journal) = Journal::whole(alloc, disk, reader)? {
+            return journal.if_named(names);
         }
+        reader.restart();
+        Journal::load_judged(alloc, disk, names, reader)
     }
 
     /// The journal, where it has these names.

@@ -7,23 +7,15 @@
 #![tactic(auto)]
 
 mod error;
-mod given;
 mod journal;
-mod kept;
 pub mod laws;
 mod loading;
 mod look;
-mod numbers;
 mod out_buf;
-mod past;
-mod reached;
 mod reader;
-mod sources;
-mod spot;
 mod walk;
 
 pub use error::JournalError;
-pub use given::source_in;
 pub use journal::Journal;
 pub use loading::payload_next;
 pub use look::Look;

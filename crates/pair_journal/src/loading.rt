@@ -2,21 +2,22 @@
 
 ghost use Rattle.std.specs.Prelude.{◌≢◌, ◌+◌, ◌<◌, ◌^◌, Err};
 ghost use Rattle.pair_journal.specs.declared.error.JournalError.TheVariants as errors;
-ghost use Rattle.std.specs.Prelude.{◌≡◌, ◌≤◌, [], MatchOption, IfOk, IfErr, OnOk};
+ghost use Rattle.std.specs.Prelude.{◌≡◌, ◌≤◌, [], MatchOption, IfOk, IfErr, IfSome, OnOk};
 ghost use Rattle.std.specs.Option.{ForSome};
 ghost use Rattle.gate_log.specs.Log.{OnlyReads, StandsOver, ReadsPayload};
-ghost use Rattle.gate_log.specs.Chunk.{IsOf};
-ghost use Rattle.pair_entries.specs.Birth.{AreNames};
+ghost use Rattle.gate_log.specs.Chunk.{IsOf, BeginsWith};
+ghost use Rattle.pair_entries.specs.Birth.{AreNames, birth_bytes};
 ghost use Rattle.pair_entries.specs.declared.entry.Entry.{Entry};
-ghost use Rattle.pair_journal.specs.Calls.{HasDiskCause};
+ghost use Rattle.pair_journal.specs.Calls.{HasDiskCause, ReadsOnly};
 ghost use Rattle.pair_journal.specs.Loading.{Follows, Unread, IsMisread, TellsNames, Tells};
 ghost use Rattle.pair_journal.specs.Loading.{HasExtent};
-ghost use Rattle.pair_journal.specs.Days.{day_after};
+ghost use Rattle.kept_entries.specs.Days.{day_after};
+ghost use Rattle.kept_entries.specs.Spots.{end_of};
+ghost use Rattle.outside.specs.declared.disk.TheConstants.{MAX_DISK};
 
-use crate::numbers::{Next, day_after, goes_on, numbers_before};
-use crate::reached::Keeper;
 use crate::{JournalError, Reader};
 use gate_log::{Chunk, Log, u32_front};
+use kept_entries::{Keeper, Kept, Next, day_after, goes_on, numbers_before};
 use order_meaning::Names;
 use outside::{Disk, MAX_DISK};
 use pair_entries::{EntryRef, entry_ref, read_birth};
@@ -168,4 +169,50 @@ pub(crate) fn read_log<D: Disk, R: Reader, K: Keeper + Drop>(
     let names = read_names(log, disk, &mut chunk)?;
     let kept = read_entries(log, &names, disk, &mut chunk, reader, keeper)?;
     Ok((names, kept))
+}
+
+/// What is kept, where nothing is yet, of the entries behind the birth record of a journal of these
+/// names, up to a gate that is shut; none where what stands before it is not all entries. Each is
+/// shown to a reader.
+pub(crate) fn whole_entries<D: Disk, R: Reader>(
+    names: &Names,
+    disk: &mut D,
+    chunk: &mut Chunk,
+    reader: &mut R,
+    keeper: Kept,
+) -> Result<Option<Kept>, JournalError>
+    requires named { AreNames names.now }
+    requires born { IfSome (D.bytes disk.old) (λ b. BeginsWith b (birth_bytes names.now)) }
+    requires none { keeper.entries ≡ [] }
+    requires of { IsOf (D.bytes disk.old) chunk.old }
+    ensures ok { IfOk result (λ found. IfSome found (λ kept.
+        Tells (D.bytes disk.old) names.now kept.entries)) }
+    ensures within { IfOk result (λ found. IfSome found (λ kept.
+        end_of kept.entries < MAX_DISK)) }
+    ensures shown { IfOk result (λ found. IfSome found (λ kept.
+        R.shown reader.old [] → R.shown reader.new kept.entries)) }
+    ensures only_read { OnlyReads D.bytes D.image disk.old disk.new }
+    ensures cause { HasDiskCause (D.faults disk.old) (D.faults disk.new) result }
+    ensures only { ReadsOnly result }
+{
+    let mut kept = keeper;
+    'records: loop {
+        let end = kept.end();
+        if chunk.is_shut(disk, end.place)? {
+            return Ok(Some(kept));
+        }
+        if !chunk.seek(disk, end.place)? {
+            return Ok(None);
+        }
+        let payload = chunk.payload();
+        let Some(entry) = entry_after(kept.day(), end.next, payload) else {
+            return Ok(None);
+        };
+        let len = payload.len() as u64;
+        if end.place + 5 + len >= MAX_DISK {
+            return Ok(None);
+        }
+        reader.saw(&entry)?;
+        kept.keep(&entry, len)?;
+    }
 }

@@ -82,8 +82,10 @@ impl OutBuf {
     }
 
     /// Begins its walk anew, as the disk may have changed since the last out, and takes no memory.
+    /// The out that it tells stays.
     pub fn restart(&mut self)
         ensures walk { BeginsOuts self.new.walk }
+        ensures told { self.new.told ≡ self.old.told }
     {
         self.walk.restart();
     }

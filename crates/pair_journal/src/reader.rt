@@ -19,6 +19,10 @@ pub trait Reader {
     fn saw(&mut self, entry: &EntryRef<'_>) -> Result<(), AllocError>
         ensures { OnOk result ((before : List Entry) → shown self.old before →
             shown self.new (before ++ entry.now ∷ [])) };
+
+    /// Is shown them from the first on anew, and forgets what it was shown.
+    fn restart(&mut self)
+        ensures { shown self.new [] };
 }
 
 /// Who keeps nothing of them.
@@ -31,4 +35,6 @@ impl Reader for NoReader {
     fn saw(&mut self, _entry: &EntryRef<'_>) -> Result<(), AllocError> {
         Ok(())
     }
+
+    fn restart(&mut self) {}
 }

@@ -3,8 +3,8 @@
 ghost use Rattle.std.specs.Prelude.{IfOk};
 ghost use Rattle.pair_journal.specs.Walks.{BeginsEntries, BeginsOuts};
 
-use crate::spot::{Spot, start};
 use gate_log::Chunk;
+use kept_entries::{Spot, start};
 use std::alloc::{AllocError, Global};
 
 /// Where a walk over a journal has come to, and the bytes of the disk that it read last: at most

@@ -10,10 +10,10 @@ use Rattle.order_meaning.specs.declared.Side.TheVariants.{Client, Venue}
 use Rattle.pair_entries.specs.declared.entry.Out.{Out}
 use Rattle.pair_entries.specs.declared.entry.Entry.{Entry}
 use Rattle.pair_entries.specs.Payload.{Next}
-use Rattle.pair_journal.specs.Numbers.{next_out, outs_to, Numbered, OutsGoOn, GoesOn, is_side}
-use Rattle.pair_journal.specs.Numbers.{first_numbers}
-use Rattle.pair_journal.specs.Journal.{AreEntries}
-use Rattle.pair_journal.specs.Given.{Given, numbered, given_in, given}
+use Rattle.kept_entries.specs.Numbers.{next_out, outs_to, Numbered, OutsGoOn, GoesOn, is_side}
+use Rattle.kept_entries.specs.Numbers.{first_numbers}
+use Rattle.kept_entries.specs.Entries.{AreEntries}
+use Rattle.kept_entries.specs.Given.{Given, numbered, given_in, given}
 use Rattle.pair_journal.specs.OutBuf.{OutAt, IsGivenAs}
 use Rattle.life_laws.specs.Forms.{Placed, placed_at, all_placed, placed}
 use Rattle.wire_sends.specs.Again.{placed_by}

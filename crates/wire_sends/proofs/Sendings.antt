@@ -10,7 +10,7 @@ use Rattle.order_meaning.specs.declared.Side.{Side}
 use Rattle.order_meaning.specs.declared.Side.TheVariants.{Client, Venue}
 use Rattle.order_meaning.specs.declared.names.Names.{Names}
 use Rattle.pair_entries.specs.declared.entry.Out.{Out}
-use Rattle.pair_journal.specs.Numbers.{is_side, outs_to}
+use Rattle.kept_entries.specs.Numbers.{is_side, outs_to}
 use Rattle.wires.specs.Told.{GrowsBy}
 use Rattle.wires.specs.Wire.{WireCall, within_after}
 use Rattle.session_frames.specs.Frames.{fill_out}

@@ -7,7 +7,7 @@ use Rattle.pair_entries.specs.declared.TheConstants.{MAX_AT, MAX_NUMBER, MAX_NEX
 use Rattle.pair_journal.specs.OutBuf.{OutAt}
 use Rattle.wires.specs.Wire.{WireCall}
 use Rattle.pair_entries.specs.declared.entry.Entry.{Entry}
-use Rattle.pair_journal.specs.Numbers.{next_out, numbers_after, first_numbers}
+use Rattle.kept_entries.specs.Numbers.{next_out, numbers_after, first_numbers}
 use Rattle.event_decisions.specs.Decide.{Repeat}
 use Rattle.life_laws.specs.Forms.{Placed, Form}
 use Rattle.life_laws.specs.Repeats.{Run}

@@ -5,7 +5,7 @@ use Rattle.std.specs.declared.option.Option.{Option}
 use Rattle.std.specs.Option.{ForSome, option_map_or}
 use Rattle.order_meaning.specs.declared.Side.{Side}
 use Rattle.pair_entries.specs.declared.entry.Out.{Out}
-use Rattle.pair_journal.specs.Numbers.{is_side}
+use Rattle.kept_entries.specs.Numbers.{is_side}
 use Rattle.pair_entries.specs.Payload.{IsOut}
 use Rattle.wires.specs.Told.{GrowsBy}
 use Rattle.wires.specs.Wire.{WireCall, is_within}

@@ -1,7 +1,7 @@
 //! What is sent on a wire for the first time.
 
 ghost use Rattle.std.specs.Prelude.{◌≡◌, ◌≤◌, [], ◌∷◌, map, if◌then◌else◌};
-ghost use Rattle.pair_journal.specs.Numbers.{is_side, outs_to};
+ghost use Rattle.kept_entries.specs.Numbers.{is_side, outs_to};
 ghost use Rattle.life_laws.specs.Forms.{form_frame};
 ghost use Rattle.life_laws.specs.Happens.{first_form};
 ghost use Rattle.wire_sends.specs.Sent.{Agrees, Sent, IsSendable, AreSendable};

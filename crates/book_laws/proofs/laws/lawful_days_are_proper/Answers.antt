@@ -1,5 +1,5 @@
 use Rattle.std.proofs.Common.{[], refl}
-use Rattle.pair_journal.specs.Numbers.{first_numbers}
+use Rattle.kept_entries.specs.Numbers.{first_numbers}
 use Rattle.book_laws.proofs.Lawful.{proper_after}
 use Rattle.book_laws.proofs.laws.lawful_days_are_proper.Goals as goal
 

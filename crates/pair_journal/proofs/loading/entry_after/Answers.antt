@@ -4,10 +4,10 @@ use Rattle.gate_log.proofs.Blocks.{same_front}
 use Rattle.pair_entries.specs.declared.entry.Entry.{Entry}
 use Rattle.pair_entries.specs.Payload.{Next, IsEntry, entry_bytes, payload_on}
 use Rattle.pair_entries.proofs.Same.{same_entry}
-use Rattle.pair_journal.specs.Numbers.{GoesOn, numbers_before}
-use Rattle.pair_journal.specs.Days.{day_after}
+use Rattle.kept_entries.specs.Numbers.{GoesOn, numbers_before}
+use Rattle.kept_entries.specs.Days.{day_after}
 use Rattle.pair_journal.specs.Loading.{Follows}
-use Rattle.pair_journal.proofs.Dating.{after_most}
+use Rattle.kept_entries.proofs.Dating.{after_most}
 use Rattle.pair_journal.proofs.Standing.{has_day, behind_day}
 use Rattle.pair_journal.proofs.loading.entry_after.Goals as goal
 

@@ -1,6 +1,6 @@
 use Rattle.std.proofs.Common.{◌≤◌, ◌-◌, ◌∙◌, sym, subst}
-use Rattle.pair_journal.specs.Days.{last_day}
-use Rattle.pair_journal.specs.Numbers.{next_out, numbers_after, first_numbers}
+use Rattle.kept_entries.specs.Days.{last_day}
+use Rattle.kept_entries.specs.Numbers.{next_out, numbers_after, first_numbers}
 use Rattle.wire_sends.specs.Again.{IsGiven}
 use Rattle.wire_sends.proofs.Sendings.{same_side}
 use Rattle.wire_sends.proofs.acts.repeat_on.Goals as goal

@@ -1,9 +1,9 @@
 use Rattle.std.proofs.Common.{◌≡◌, ◌≤◌, ◌+◌, ◌-◌, ◌∙◌, sym, subst, refl, arith, Some, inl}
 use Rattle.std.proofs.Common.{inr}
 use Rattle.std.specs.Option.{ForSome}
-use Rattle.pair_journal.specs.Days.{last_day}
+use Rattle.kept_entries.specs.Days.{last_day}
 use Rattle.pair_journal.specs.Journal.{JournalOf, Born}
-use Rattle.pair_journal.proofs.Dating.{last_is_sound}
+use Rattle.kept_entries.proofs.Dating.{last_is_sound}
 use Rattle.life_laws.specs.Forms.{form_frame}
 use Rattle.life_laws.specs.Repeats.{repeats, run_after, repeat_forms}
 use Rattle.wire_sends.specs.Again.{Repeated, run_of, placed_by}

@@ -1,7 +1,7 @@
 use Rattle.std.proofs.Common.{◌≡◌, ◌⊎◌, ◌≤◌, ◌+◌, ◌-◌, None}
 use Rattle.std.specs.Option.{ForSome}
 use Rattle.gate_log.specs.Log.{OnlyReads}
-use Rattle.pair_journal.specs.Days.{last_day}
+use Rattle.kept_entries.specs.Days.{last_day}
 use Rattle.pair_journal.specs.Walks.{IsWalk}
 use Rattle.wires.specs.Told.{Keeps}
 use Rattle.life_laws.specs.Forms.{form_frame}

@@ -1,6 +1,6 @@
 use Rattle.std.proofs.Common.{◌∙◌, ap}
 use Rattle.event_decisions.specs.Decide.{is_active}
-use Rattle.pair_journal.specs.Days.{last_day}
+use Rattle.kept_entries.specs.Days.{last_day}
 use Rattle.gateway_core.specs.State.{CoreState}
 use Rattle.gateway_core.proofs.Asked.{answered_is}
 use Rattle.gateway_core.proofs.planning.Core.answered.Goals as goal

@@ -1,4 +1,4 @@
-use Rattle.pair_journal.specs.Days.{last_day}
+use Rattle.kept_entries.specs.Days.{last_day}
 use Rattle.gateway_core.proofs.Grown.{plan_new, plan_grows}
 use Rattle.gateway_core.proofs.planning.Core.plan.Goals as goal
 

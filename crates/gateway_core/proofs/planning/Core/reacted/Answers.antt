@@ -1,7 +1,7 @@
 use Rattle.std.proofs.Common.{List, subst}
 use Rattle.session_core.specs.declared.act.Act.{Act}
 use Rattle.event_decisions.specs.Decide.{session_of, says_of}
-use Rattle.pair_journal.specs.Days.{last_day}
+use Rattle.kept_entries.specs.Days.{last_day}
 use Rattle.gateway_core.specs.Planning.{JoinsWith, words_by}
 use Rattle.gateway_core.specs.State.{sessions_in}
 use Rattle.gateway_core.proofs.Reacted.{heard_as, heard_is, reacts_join, reacts_plan}

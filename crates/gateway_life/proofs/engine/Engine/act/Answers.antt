@@ -2,7 +2,7 @@ use Rattle.std.proofs.Common.{subst, ap, refl, ◌∙◌}
 use Rattle.gateway_core.specs.State.{sessions_in}
 use Rattle.std.specs.Prelude.{map, is_some}
 use Rattle.order_meaning.specs.declared.Side.TheVariants.{Client, Venue}
-use Rattle.pair_journal.specs.Days.{last_day}
+use Rattle.kept_entries.specs.Days.{last_day}
 use Rattle.life_laws.specs.Forms.{form_frame}
 use Rattle.life_laws.specs.Repeats.{repeated_to}
 use Rattle.life_laws.specs.Happens.{firsts, firsts_to}

@@ -2,7 +2,7 @@ use Rattle.std.proofs.Common.{◌∙◌, ◌++◌, ap, sym, refl, subst}
 use Rattle.std.specs.Prelude.{IfSome}
 use Rattle.std.specs.Option.{option_to_list}
 use Rattle.pair_entries.specs.Payload.{IsEntry}
-use Rattle.pair_journal.specs.Days.{last_day}
+use Rattle.kept_entries.specs.Days.{last_day}
 use Rattle.pair_journal.specs.State.{JournalState}
 use Rattle.gateway_core.specs.State.{event_of}
 use Rattle.wire_sends.specs.Again.{IsGiven}

@@ -1,5 +1,5 @@
 use Rattle.std.proofs.Common.{refl, inr}
-use Rattle.pair_journal.specs.Days.{day_at}
+use Rattle.kept_entries.specs.Days.{day_at}
 use Rattle.gateway_life.specs.Rounds.{DayBroken, AtEnd}
 use Rattle.gateway_life.specs.Dealt.{around}
 use Rattle.gateway_life.specs.Ready.{LeavesOf}

@@ -1,8 +1,8 @@
 use Rattle.std.proofs.Common.{◌∙◌, ◌++◌, ap, sym, subst, Err, ◌∷◌, []}
 use Rattle.std.specs.Option.{option_to_list}
 use Rattle.std.specs.Prelude.{is_some}
-use Rattle.pair_journal.specs.Days.{last_day, past_of}
-use Rattle.pair_journal.proofs.Dating.{past-last}
+use Rattle.kept_entries.specs.Days.{last_day, past_of}
+use Rattle.kept_entries.proofs.Dating.{past-last}
 use Rattle.pair_journal.specs.State.{JournalState}
 use Rattle.gateway_life.specs.declared.engine.Made.{Made}
 use Rattle.gateway_life.specs.State.{seen}

@@ -1,5 +1,5 @@
 use Rattle.std.proofs.Common.{refl, ◌∙◌, false}
-use Rattle.pair_journal.specs.Days.{last_day}
+use Rattle.kept_entries.specs.Days.{last_day}
 use Rattle.gateway_life.specs.State.{EngineState}
 use Rattle.gateway_life.proofs.Beginning.{begins_ok, begins_err, ready_loaded, born_same}
 use Rattle.gateway_life.proofs.engine.Engine.new.Goals as goal

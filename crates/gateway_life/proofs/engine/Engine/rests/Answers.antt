@@ -1,5 +1,5 @@
 use Rattle.std.proofs.Common.{◌∙◌, sym}
-use Rattle.pair_journal.specs.Days.{last_day}
+use Rattle.kept_entries.specs.Days.{last_day}
 use Rattle.gateway_life.specs.State.{seen}
 use Rattle.gateway_life.proofs.Passing.{rested}
 use Rattle.gateway_life.proofs.engine.Engine.rests.Goals as goal

@@ -1,6 +1,6 @@
 use Rattle.std.proofs.Common.{subst, sym}
 use Rattle.order_meaning.specs.declared.Side.TheVariants.{Client, Venue}
-use Rattle.pair_journal.specs.Days.{past_of}
+use Rattle.kept_entries.specs.Days.{past_of}
 use Rattle.gateway_life.specs.Ready.{IfTold, world_of, LeavesOf, Behind}
 use Rattle.gateway_life.specs.Stepped.{Failed, records, AllStepped}
 use Rattle.gateway_life.specs.Rounds.{ends_of}

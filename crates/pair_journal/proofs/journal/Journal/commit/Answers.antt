@@ -3,8 +3,8 @@ use Rattle.std.specs.Option.{ForSome}
 use Rattle.gate_log.specs.Log.{HasRoom}
 use Rattle.pair_entries.specs.declared.entry.Entry.{Entry}
 use Rattle.pair_entries.specs.Prepared.{OnDay}
-use Rattle.pair_journal.specs.Numbers.{GoesOn, first_numbers, numbers_before, numbers_after}
-use Rattle.pair_journal.specs.Days.{payload_behind}
+use Rattle.kept_entries.specs.Numbers.{GoesOn, first_numbers, numbers_before, numbers_after}
+use Rattle.kept_entries.specs.Days.{payload_behind}
 use Rattle.pair_journal.specs.Journal.{JournalOf, Born}
 use Rattle.pair_journal.specs.State.{JournalState}
 use Rattle.pair_journal.specs.Keeping.{state_of}

@@ -1,26 +1,33 @@
-use Rattle.std.proofs.Common.{◌≡◌, [], false, IfSome, Ok, subst}
-use Rattle.gate_log.specs.Log.{Looks}
-use Rattle.pair_journal.proofs.Loaded.{begun, begun_ok, begun_stands, images_kept, images_behind}
+use Rattle.std.proofs.Common.{IfSome, subst}
+use Rattle.pair_journal.specs.State.{JournalState}
+use Rattle.pair_journal.specs.Loading.{Tells}
+use Rattle.pair_journal.proofs.Loaded.{judged, stands_loaded, images_kept, images_behind, on_ok_one}
 use Rattle.pair_journal.proofs.journal.Journal.load.Goals as goal
 
-pub returns-in-Some-clause-images : goal.returns-in-Some-clause-images
-returns-in-Some-clause-images g c = images_kept c.args.names.now _ _ _ (λ x here.
-    c.look.ensures.only_read.images x (c.of_names.ensures.only_read.images x here))
-
-pub returns-in-None-clause-loads : goal.returns-in-None-clause-loads
-returns-in-None-clause-loads g c =
+pub returns-in-Some-clause-loads : goal.returns-in-Some-clause-loads
+returns-in-Some-clause-loads g c =
     let told = g.D.Disk.bytes c.args.disk.now in
-    begun c.args.names.now told (g.D.Disk.bytes c.look.new.disk) (g.D.Disk.bytes c.begin.new.disk)
-    c.begin.result (subst (λ found. IfSome told (λ b. Looks b (Ok found))) c.in-None.is
-    c.in_ok-log.ensures.looks)
-    (begun_ok (λ j. j.names ≡ c.args.names.now) (λ j. j.entries ≡ []) (λ j. j.broken ≡ false) _
-    c.begin.result c.begin.ensures.ok c.begin.ensures.stands) c.begin.ensures.only
+    judged c.args.names.now told _ c.whole.ensures.only_read.same c.in-Some.journal
+    c.if_named.result (subst (λ o. IfSome o (λ (j : JournalState). Tells told j.names j.entries))
+    c.in-Some.is c.in_ok-journal.ensures.ok) c.if_named.ensures
 
-pub returns-in-None-clause-stands : goal.returns-in-None-clause-stands
-returns-in-None-clause-stands g c =
-    begun_stands c.args.names.now _ (λ j. j.broken ≡ false) c.begin.result c.begin.ensures.ok
-    c.begin.ensures.stands
+pub returns-in-Some-clause-stands : goal.returns-in-Some-clause-stands
+returns-in-Some-clause-stands g c =
+    let told = g.D.Disk.bytes c.args.disk.now in
+    stands_loaded c.args.names.now told _ c.whole.ensures.only_read.same c.in-Some.journal
+    c.if_named.result (subst (λ o. IfSome o (λ (j : JournalState). Tells told j.names j.entries))
+    c.in-Some.is c.in_ok-journal.ensures.ok) c.if_named.ensures
 
-pub returns-in-None-clause-images : goal.returns-in-None-clause-images
-returns-in-None-clause-images g c =
-    images_behind c.args.names.now _ _ _ _ _ c.look.ensures.only_read c.begin.ensures.images
+pub returns-in-Some-clause-images : goal.returns-in-Some-clause-images
+returns-in-Some-clause-images g c =
+    images_kept c.args.names.now _ _ _ c.whole.ensures.only_read.images
+
+pub returns-clause-images : goal.returns-clause-images
+returns-clause-images g c =
+    images_behind c.args.names.now _ _ _ _ _ c.whole.ensures.only_read
+    c.load_judged.ensures.images
+
+pub returns-clause-durable : goal.returns-clause-durable
+returns-clause-durable g c =
+    on_ok_one _ _ _ _ _ c.load_judged.result c.whole.ensures.only_read
+    c.load_judged.ensures.durable

@@ -1,12 +1,12 @@
 use Rattle.std.proofs.Common.{◌∙◌, sym, ap, subst}
 use Rattle.pair_entries.specs.Payload.{AreNext}
-use Rattle.pair_journal.specs.declared.spot.Spot.{Spot}
-use Rattle.pair_journal.specs.Numbers.{first_numbers, numbers_after}
-use Rattle.pair_journal.specs.Days.{last_day}
-use Rattle.pair_journal.specs.Journal.{DaysGoOn}
+use Rattle.kept_entries.specs.declared.spot.Spot.{Spot}
+use Rattle.kept_entries.specs.Numbers.{first_numbers, numbers_after}
+use Rattle.kept_entries.specs.Days.{last_day}
+use Rattle.kept_entries.specs.Entries.{DaysGoOn}
 use Rattle.pair_journal.specs.State.{JournalState}
 use Rattle.pair_journal.proofs.Adding.{next_bounds}
-use Rattle.pair_journal.proofs.Dating.{last_numbers}
+use Rattle.kept_entries.proofs.Dating.{last_numbers}
 use Rattle.pair_journal.proofs.journal.Journal.next.Goals as goal
 
 pub returns-clause-bounds : goal.returns-clause-bounds

@@ -1,16 +1,16 @@
 use Rattle.std.proofs.Common.{◌≡◌, ◌⊎◌, ◌≤◌, ◌<◌, ◌+◌, ◌∙◌, Ok, Err, refl, sym, ap, subst, arith}
 use Rattle.gate_log.specs.Chunk.{IsOf}
-use Rattle.pair_journal.specs.Numbers.{next_out, first_numbers}
-use Rattle.pair_journal.specs.Days.{last_day}
-use Rattle.pair_journal.specs.Journal.{DaysGoOn}
+use Rattle.kept_entries.specs.Numbers.{next_out, first_numbers}
+use Rattle.kept_entries.specs.Days.{last_day}
+use Rattle.kept_entries.specs.Entries.{DaysGoOn}
 use Rattle.pair_journal.specs.State.{JournalState}
-use Rattle.pair_journal.specs.Given.{given}
+use Rattle.kept_entries.specs.Given.{given}
 use Rattle.pair_journal.specs.OutBuf.{IsGivenAs}
 use Rattle.pair_journal.specs.Buffer.{OutKept}
-use Rattle.pair_journal.specs.Spots.{day_start, IsSpot, HoldsOut}
-use Rattle.pair_journal.specs.declared.spot.Spot.{Spot}
+use Rattle.kept_entries.specs.Spots.{day_start, IsSpot, HoldsOut}
+use Rattle.kept_entries.specs.declared.spot.Spot.{Spot}
 use Rattle.std.specs.declared.option.Option.{Option}
-use Rattle.pair_journal.proofs.Dating.{last_numbers}
+use Rattle.kept_entries.proofs.Dating.{last_numbers}
 use Rattle.pair_journal.proofs.Standing.{walk_begins, walk_stands, given_today, untold}
 use Rattle.pair_journal.proofs.Standing.{refused_untold}
 use Rattle.pair_journal.proofs.Walking.{only_read_still, only_read_on}

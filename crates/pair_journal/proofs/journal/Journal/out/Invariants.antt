@@ -2,8 +2,8 @@ use Rattle.std.proofs.Common.{◌≡◌, ◌≤◌, ◌+◌, ◌-◌}
 use Rattle.std.specs.Option.{ForSome}
 use Rattle.gate_log.specs.Log.{OnlyRead}
 use Rattle.gate_log.specs.Chunk.{IsOf}
-use Rattle.pair_journal.specs.Numbers.{next_out}
-use Rattle.pair_journal.specs.Spots.{IsSpot}
+use Rattle.kept_entries.specs.Numbers.{next_out}
+use Rattle.kept_entries.specs.Spots.{IsSpot}
 use Rattle.pair_journal.proofs.journal.Journal.out.Given as goal
 
 abbrev pub invariant-records : goal.invariant-records

@@ -1,10 +1,10 @@
 use Rattle.std.proofs.Common.{◌≡◌, sym, ap, subst, arith}
-use Rattle.pair_journal.specs.Numbers.{next_out}
-use Rattle.pair_journal.specs.Spots.{IsSpot}
-use Rattle.pair_journal.specs.declared.spot.Spot.{Spot}
+use Rattle.kept_entries.specs.Numbers.{next_out}
+use Rattle.kept_entries.specs.Spots.{IsSpot}
+use Rattle.kept_entries.specs.declared.spot.Spot.{Spot}
 use Rattle.pair_journal.specs.OutBuf.{TellsIf}
-use Rattle.pair_journal.specs.Given.{numbered}
-use Rattle.pair_journal.specs.Numbers.{outs_to}
+use Rattle.kept_entries.specs.Given.{numbered}
+use Rattle.kept_entries.specs.Numbers.{outs_to}
 use Rattle.pair_journal.specs.Buffer.{out_told}
 use Rattle.pair_journal.specs.Loading.{IsPayload}
 use Rattle.pair_journal.proofs.Standing.{has_out}

@@ -2,9 +2,9 @@ use Rattle.std.proofs.Common.{◌+◌, ◌∙◌, length, refl, sym, ap, subst, 
 use Rattle.std.specs.Option.{ForSome}
 use Rattle.pair_journal.specs.Journal.{JournalOf, Born}
 use Rattle.pair_journal.specs.Loading.{IsPayload}
-use Rattle.pair_journal.specs.Spots.{IsSpot, StandsAt}
+use Rattle.kept_entries.specs.Spots.{IsSpot, StandsAt}
 use Rattle.pair_journal.specs.State.{JournalState}
-use Rattle.pair_journal.specs.declared.spot.Spot.{Spot}
+use Rattle.kept_entries.specs.declared.spot.Spot.{Spot}
 use Rattle.pair_journal.proofs.Standing.{not_behind, not_missing, unread_refused, payload_is}
 use Rattle.pair_journal.proofs.Standing.{rest_is}
 use Rattle.pair_journal.proofs.Standing.{front_next, has_day}

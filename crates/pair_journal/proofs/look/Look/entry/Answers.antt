@@ -1,7 +1,7 @@
 use Rattle.std.proofs.Common.{◌≡◌, ◌∙◌, Err, Some, sym, ap, arith}
 use Rattle.std.specs.List.{slice_get}
 use Rattle.pair_entries.specs.declared.entry.Entry.{Entry}
-use Rattle.pair_journal.specs.declared.spot.Spot.{Spot}
+use Rattle.kept_entries.specs.declared.spot.Spot.{Spot}
 use Rattle.pair_journal.proofs.Standing.{get_some, untold, refused_untold}
 use Rattle.pair_journal.proofs.Walking.{only_read_on}
 use Rattle.pair_journal.proofs.look.Look.entry.Goals as goal

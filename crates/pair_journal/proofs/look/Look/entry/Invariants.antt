@@ -2,7 +2,7 @@ use Rattle.std.proofs.Common.{◌≡◌, ◌≤◌, ◌-◌}
 use Rattle.std.specs.Option.{ForSome}
 use Rattle.gate_log.specs.Log.{OnlyRead}
 use Rattle.gate_log.specs.Chunk.{IsOf}
-use Rattle.pair_journal.specs.Spots.{IsSpot}
+use Rattle.kept_entries.specs.Spots.{IsSpot}
 use Rattle.pair_journal.proofs.look.Look.entry.Given as goal
 
 abbrev pub invariant-records : goal.invariant-records

@@ -4,7 +4,7 @@ use Rattle.pair_entries.specs.declared.entry.Entry.{Entry}
 use Rattle.pair_entries.proofs.Same.{same_entry}
 use Rattle.pair_journal.specs.Journal.{JournalOf, Born}
 use Rattle.pair_journal.specs.Loading.{IsPayload}
-use Rattle.pair_journal.specs.Spots.{IsSpot, StandsAt}
+use Rattle.kept_entries.specs.Spots.{IsSpot, StandsAt}
 use Rattle.pair_journal.specs.State.{JournalState}
 use Rattle.pair_journal.proofs.Standing.{next_spot, not_behind, not_missing, payload_is, read_is}
 use Rattle.pair_journal.proofs.Standing.{rest_is, has_day, unread_refused}

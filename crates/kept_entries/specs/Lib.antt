@@ -1,0 +1,10 @@
+pub mod Days
+pub mod Numbers
+pub mod Entries
+pub mod State
+pub mod Past
+pub mod Given
+pub mod Spots
+pub mod Sources
+pub mod Kept
+pub mod Reached

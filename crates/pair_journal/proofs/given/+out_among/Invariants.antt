@@ -1,4 +1,0 @@
-use Rattle.pair_journal.proofs.given.+out_among.Given as goal
-
-abbrev pub decreases-out_among : goal.decreases-out_among
-decreases-out_among l = l.count

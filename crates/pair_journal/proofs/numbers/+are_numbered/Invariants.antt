@@ -1,5 +1,0 @@
-use Rattle.std.proofs.Common.{length}
-use Rattle.pair_journal.proofs.numbers.+are_numbered.Given as goal
-
-abbrev pub decreases-are_numbered : goal.decreases-are_numbered
-decreases-are_numbered l = length l.outs.now

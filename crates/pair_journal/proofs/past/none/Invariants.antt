@@ -1,5 +1,0 @@
-use Rattle.std.proofs.Common.{[]}
-use Rattle.pair_journal.proofs.past.none.Given as goal
-
-abbrev pub ghost-seen_as : goal.ghost-seen_as
-ghost-seen_as a = []

@@ -1,4 +1,0 @@
-use Rattle.pair_journal.proofs.reached.Reached.add.Given as goal
-
-abbrev pub ghost-joined : goal.ghost-joined
-ghost-joined a = a.entry.now
