@@ -43,11 +43,12 @@ use Rattle.book_laws.proofs.New.{AllMove, in_mapped, only_entry, own_or_far}
 use Rattle.book_laws.proofs.Outs.{given_is}
 use Rattle.book_laws.proofs.Shapes.{Does, DoesFor, Forwards, ForClient, ForVenue}
 use Rattle.book_laws.proofs.Shapes.{ForSession, HasNewId, HasNoId, ItAnswers, ItForwards}
-use Rattle.book_laws.proofs.Shapes.{ItPassesOn, ItSaysNothing, Rests}
+use Rattle.book_laws.proofs.Shapes.{ItPassesOn, ItSaysNothing, Rests, TakesFrom}
 use Rattle.book_laws.proofs.Chains.{WentById, id_kept, id_went}
 use Rattle.book_laws.proofs.Sides.{apart_side, far_side, in_outs, own_side, twice}
-use Rattle.book_laws.proofs.Sources.{AreKnown, WentUnder, admin_out, found, source_went}
-use Rattle.book_laws.proofs.Tests.{counts-none, is-false, same-some}
+use Rattle.book_laws.proofs.Sources.{AreKnown, WentUnder, admin_out, found, only_out, own_among}
+use Rattle.book_laws.proofs.Sources.{source_went}
+use Rattle.book_laws.proofs.Tests.{and-false, counts-none, is-false, same-some}
 use Rattle.book_laws.proofs.Tooks.{heard_raw, raw_is_body, raw_refuses, took_far, took_heard}
 use Rattle.book_laws.proofs.Tooks.{took_none, took_plain}
 
@@ -86,6 +87,13 @@ reject_sort Venue s reject is = absurd (cc (reject, is))
 -- each out of an entry can be sent
 abbrev pub AreSentBy : Names → Entry → Type 0
 AreSentBy names e = (side : Side) (out : Out) → In out (outs_to side e.outs) → IsSent names side out
+
+taken_from : (e : Entry) (took : Took) → IsTaken e took
+    → TakesFrom took.side (other took.side) e (heard_raw took.side took.number took.raw)
+taken_from e took t = record {
+  takes = took_heard e took t.is t.no_reset t.numbered;
+  only = took_far e took t.is;
+}
 
 module _ (names : Names) (e : Entry) (sent : AreSentBy names e) where
   one_given : (side to : Side) (out : Out) {b : Bool} → GivesOne e to out → is_side side to ≡ b
@@ -266,25 +274,11 @@ module _ (says : HeadersSayNothing) (ids : IdsAreCompared) (refusals : RefusalsA
       found past x took out m going (b.bodies x i took going.taken.is) side to before i
       (λ y j o k same.
       let is : y ≡ x = only_entry side first_numbers before b.moves y x j i o out k
-      (own_among x out going.gives side to) same in (
+      (own_among x out going.gives.outs side to) same in (
         is,
-        only_one x out going.gives.outs o
+        only_out x out o going.gives.outs
             (in_outs side x.outs o (subst (λ (z : Entry). In o (outs_to side z.outs)) is k)).0,
       ))
-    where
-      own_among : (x : Entry) (out : Out) {s : Side} → GivesOne x s out → (side : Side)
-          → out.side ≡ side → In out (outs_to side x.outs)
-      own_among x out gives side to =
-          subst (λ (l : List Out). In out (outs_to side l)) (sym gives.outs)
-          (subst (λ (c : Bool). In out (cond c (out ∷ []) []))
-          (sym (ap (is_side side) to ∙ own_side side)) (inl refl))
-
-      only_one : (x : Entry) (out : Out) → x.outs ≡ out ∷ [] → (o : Out) → In o x.outs → o ≡ out
-      only_one x out outs o i = by (subst (In o) outs i)
-        where
-          by : In o (out ∷ []) → o ≡ out
-          by (inl same) = same
-          by (inr none) = absurd none
 
   -- what a refusal names, by its number and its id
   abbrev named_at : Side → Option (List ℕ) → Option ℕ → Option (ℕ × ℕ)
@@ -302,11 +296,8 @@ module _ (says : HeadersSayNothing) (ids : IdsAreCompared) (refusals : RefusalsA
 
     module _ (took : Took) (t : IsTaken e took) (m : Message)
         (reads : message_of took.side took.raw ≡ Ok m) (is : is_refusal m ≡ true) where
-      r : Heard
+      abbrev r : Heard
       r = heard_raw took.side took.number took.raw
-
-      takes_r : taken took.side e ≡ Some (heard_raw took.side took.number took.raw)
-      takes_r = took_heard e took t.is t.no_reset t.numbered
 
       -- what an earlier out is named by
       pub record NamesEarlier (number : ℕ) : Type 0 where
@@ -315,16 +306,14 @@ module _ (says : HeadersSayNothing) (ids : IdsAreCompared) (refusals : RefusalsA
         pub own : Heard
         pub out : Heard
         pub forwards : Forwards (other took.side) took.side x own out
-        pub named : names_message (heard_raw took.side took.number took.raw) out ≡ true
+        pub named : names_message r out ≡ true
         pub number_is : own.number ≡ number
 
       abbrev ByNames : Option ℕ → Option (List ℕ) → Heard → Type 0
       ByNames n id out = names_by n id out.number out.cl_ord_id ≡ true
 
-      by_names : (n : Option ℕ) (id : Option (List ℕ)) (out : Heard)
-          → (heard_raw took.side took.number took.raw).number_named ≡ n
-          → (heard_raw took.side took.number took.raw).id_named ≡ id → ByNames n id out
-          → names_message (heard_raw took.side took.number took.raw) out ≡ true
+      by_names : (n : Option ℕ) (id : Option (List ℕ)) (out : Heard) → r.number_named ≡ n
+          → r.id_named ≡ id → ByNames n id out → names_message r out ≡ true
       by_names n id out number_is id_is named =
           (λ i. names_by (number_is i) (id_is i) out.number out.cl_ord_id) ∙ named
 
@@ -339,10 +328,10 @@ module _ (says : HeadersSayNothing) (ids : IdsAreCompared) (refusals : RefusalsA
       flipped Venue Client is = refl
       flipped a c is = absurd (cc is)
 
-      heard : (refusal_in m).number ≡ (heard_raw took.side took.number took.raw).number_named
+      heard : (refusal_in m).number ≡ r.number_named
       heard = sym (raw_refuses says took.side took.number took.raw m reads refusals is).number
 
-      heard_id : (refusal_in m).id ≡ (heard_raw took.side took.number took.raw).id_named
+      heard_id : (refusal_in m).id ≡ r.id_named
       heard_id = sym (raw_refuses says took.side took.number took.raw m reads refusals is).id
 
       same_number : (a c : ℕ) → a ≡ c → (c == a) ≡ true
@@ -424,9 +413,9 @@ module _ (says : HeadersSayNothing) (ids : IdsAreCompared) (refusals : RefusalsA
           → IsRefusalOf number (heard_out own) → Does before e
       told own gives number letter source refuse =
           let n = names_earlier number letter source in
-          for_side took.side (ItPassesOn (heard_raw took.side took.number took.raw)
+          for_side took.side (ItPassesOn r
           (heard_out own) (record {
-            from = record { takes = takes_r; only = took_far e took t.is };
+            from = taken_from e took t;
             near_given = near_given names e sent took.side own gives;
             far_given = own_given names e sent (other took.side) own gives;
             refusal =
@@ -445,8 +434,7 @@ module _ (says : HeadersSayNothing) (ids : IdsAreCompared) (refusals : RefusalsA
 
       module _ (none : named (known_of before) took.side (refusal_in m) ≡ None) where
         names_nothing : (x : Entry) → In x before → (own_m out : Heard)
-            → Forwards (other took.side) took.side x own_m out
-            → names_message (heard_raw took.side took.number took.raw) out ≡ true → ⊥
+            → Forwards (other took.side) took.side x own_m out → names_message r out ≡ true → ⊥
         names_nothing x i own_m out f is_named =
             let at : Forwards (other took.side) (other (other took.side)) x own_m out =
             subst (λ (s : Side). Forwards (other took.side) s x own_m out) (sym (twice took.side))
@@ -513,13 +501,12 @@ module _ (says : HeadersSayNothing) (ids : IdsAreCompared) (refusals : RefusalsA
         says_none : e.outs ≡ [] → Does before e
         says_none outs =
             let refuses = (raw_refuses says took.side took.number took.raw m reads refusals is).sort
-            in for_side took.side (ItSaysNothing (heard_raw took.side took.number took.raw)
+            in for_side took.side (ItSaysNothing r
             (record {
-              from = record { takes = takes_r; only = took_far e took t.is };
+              from = taken_from e took t;
               near_given = none_given names e sent took.side outs;
               far_given = none_given names e sent (other took.side) outs;
-              passed = counts-none took.side (heard_raw took.side took.number took.raw)
-                  (ap is_request refuses) (ap is_report refuses);
+              passed = counts-none took.side r (ap is_request refuses) (ap is_report refuses);
               names_none = λ sort x i own_m out f. is-false _ (names_nothing x i own_m out f);
             }))
 
@@ -535,26 +522,19 @@ module _ (says : HeadersSayNothing) (ids : IdsAreCompared) (refusals : RefusalsA
         ap (λ (h : Heard). h.resend) raw_is ∙ sym own ∙ resend in
         let typed = said_type took.side took.raw m read.reads in
         for_side took.side (ItSaysNothing (heard_raw took.side took.number took.raw) (record {
-          from = record {
-            takes = took_heard e took t.is t.no_reset t.numbered;
-            only = took_far e took t.is;
-          };
+          from = taken_from e took t;
           near_given = none_given names e sent took.side outs;
           far_given = none_given names e sent (other took.side) outs;
           passed = ap (λ (s : Side). counts s (heard_raw took.side took.number took.raw)) side
               ∙ ap (λ (c : Bool).
               is_request (heard_raw took.side took.number took.raw).sort && not c) again
-              ∙ and_false (is_request (heard_raw took.side took.number took.raw).sort);
+              ∙ and-false (is_request (heard_raw took.side took.number took.raw).sort);
           names_none = λ sort x i own_m out f. absurd (no_refusal m.letter
               (is_some (heard_raw took.side took.number took.raw).said)
               (letter_sort m.letter read.is)
               (ap (λ (l : List ℕ). sort_of l
               (is_some (heard_raw took.side took.number took.raw).said)) (sym typed) ∙ sort));
         }))
-      where
-        and_false : (a : Bool) → (a && false) ≡ false
-        and_false true = refl
-        and_false false = refl
 
     rests : IsOfSession e.took → AreAdmin e.outs → Rests e
     rests session admins = record {
@@ -581,10 +561,7 @@ module _ (says : HeadersSayNothing) (ids : IdsAreCompared) (refusals : RefusalsA
         (forwards names e sent says before took own m going))
     does (MadeOff took own t gives refuse) = for_side took.side
         (ItAnswers (heard_raw took.side took.number took.raw) (heard_out own) (record {
-          from = record {
-            takes = took_heard e took t.is t.no_reset t.numbered;
-            only = took_far e took t.is;
-          };
+          from = taken_from e took t;
           more = [];
           near_given = own_given names e sent took.side own gives;
           plain = λ o i. absurd i;

@@ -271,63 +271,61 @@ module _ (t : Table Kind) (ok : table_behind t ≡ true) where
   abbrev groups : List GroupTags
   groups = group_tags_in t
 
-  items_ok : list_all (item_behind (once_in t)) t.items ≡ true
-  items_ok = (both (list_all (item_behind (once_in t)) t.items)
-      (list_all (λ (row : Row Kind). kind_on is_behind row.kind) (all_rows t)) ok).0
+  items_ok : list_all (item_behind once) t.items ≡ true
+  items_ok = (both _ _ ok).0
 
   rows_ok : list_all (λ (row : Row Kind). kind_on is_behind row.kind) (all_rows t) ≡ true
-  rows_ok = (both (list_all (item_behind (once_in t)) t.items)
-      (list_all (λ (row : Row Kind). kind_on is_behind row.kind) (all_rows t)) ok).1
+  rows_ok = (both _ _ ok).1
 
-  group_is : (g : GroupTags) → In g (group_tags_in t) → IsGroup (once_in t) g
-  group_is g i = groups_are (once_in t) t.items items_ok g i
+  group_is : (g : GroupTags) → In g groups → IsGroup once g
+  group_is g i = groups_are once t.items items_ok g i
 
   -- ---- a tag twice
 
   twice_none : (before fields : List Field)
-      → first_of (twice (once_in t)) (placed_from before fields) ≡ None
-      → first_of (twice (once_in t)) (placed_from (behind_header before) (behind_header fields))
+      → first_of (twice once) (placed_from before fields) ≡ None
+      → first_of (twice once) (placed_from (behind_header before) (behind_header fields))
       ≡ None
   twice_none before [] none = none
   twice_none before (f ∷ fields) none =
-      let p = first_here (twice (once_in t))
+      let p = first_here (twice once)
       (record { before = before; field = f; after = fields }) (placed_from (f ∷ before) fields) none
       in
-      first_same (twice (once_in t)) _ _ (ap (placed_from (behind_header before))
+      first_same (twice once) _ _ (ap (placed_from (behind_header before))
       (keep f fields (is_in_header f) refl))
       ∙ by (is_in_header f) refl p.0 (twice_none (f ∷ before) fields p.1)
     where
       by : (h : Bool) → is_in_header f ≡ h
-          → fault_if (is_one_of (once_in t) f.0 && has_tag f.0 before) (faults.Reason f.0 13)
+          → fault_if (is_one_of once f.0 && has_tag f.0 before) (faults.Reason f.0 13)
           ≡ None
-          → first_of (twice (once_in t))
+          → first_of (twice once)
           (placed_from (behind_header (f ∷ before)) (behind_header fields)) ≡ None
-          → first_of (twice (once_in t)) (placed_from (behind_header before)
+          → first_of (twice once) (placed_from (behind_header before)
           (cond (not h) (f ∷ behind_header fields) (behind_header fields))) ≡ None
       by true at here rest =
-          first_same (twice (once_in t)) _ _ (ap (λ (l : List Field).
+          first_same (twice once) _ _ (ap (λ (l : List Field).
           placed_from l (behind_header fields)) (sym (keep f before true at))) ∙ rest
-      by false at here rest = here_first (twice (once_in t))
+      by false at here rest = here_first (twice once)
           (record { before = behind_header before; field = f; after = behind_header fields })
           (placed_from (f ∷ behind_header before) (behind_header fields))
-          (ap (λ (b : Bool). fault_if (is_one_of (once_in t) f.0 && b) (faults.Reason f.0 13))
+          (ap (λ (b : Bool). fault_if (is_one_of once f.0 && b) (faults.Reason f.0 13))
           (has_behind f.0 at before) ∙ here)
-          (first_same (twice (once_in t)) _ _ (ap (λ (l : List Field).
+          (first_same (twice once) _ _ (ap (λ (l : List Field).
           placed_from l (behind_header fields)) (sym (keep f before false at))) ∙ rest)
 
   -- ---- groups
 
-  once_of : (g : GroupTags) (a : IsApart g) → is_one_of (once_in t) g.count ≡ true
+  once_of : (g : GroupTags) (a : IsApart g) → is_one_of once g.count ≡ true
       → (before fields : List Field)
-      → first_of (twice (once_in t)) (placed_from before fields) ≡ None → IsOnce g a before fields
+      → first_of (twice once) (placed_from before fields) ≡ None → IsOnce g a before fields
   once_of g a counted before [] none = tt
   once_of g a counted before (f ∷ fields) none =
-      let p = first_here (twice (once_in t))
+      let p = first_here (twice once)
       (record { before = before; field = f; after = fields }) (placed_from (f ∷ before) fields) none
       in (
         λ counts. alone (has_tag g.count before)
             (let same : f.0 ≡ g.count = eqb-true f.0 g.count counts in
-            sym (ap (λ (n : ℕ). fault_if (is_one_of (once_in t) n && has_tag n before)
+            sym (ap (λ (n : ℕ). fault_if (is_one_of once n && has_tag n before)
             (faults.Reason n 13)) same ∙ ap (λ (b : Bool). fault_if (b && has_tag g.count before)
             (faults.Reason g.count 13)) counted) ∙ p.0),
         once_of g a counted (f ∷ before) fields p.1,
@@ -337,24 +335,24 @@ module _ (t : Table Kind) (ok : table_behind t ≡ true) where
       alone true is = absurd (cc is)
       alone false is = refl
 
-  fine_of : (g : GroupTags) (i : In g (group_tags_in t)) (before fields : List Field)
-      → first_of (in_groups (group_tags_in t)) (placed_from before fields) ≡ None
+  fine_of : (g : GroupTags) (i : In g groups) (before fields : List Field)
+      → first_of (in_groups groups) (placed_from before fields) ≡ None
       → IsFine g (group_is g i).apart before fields
   fine_of g i before [] none = tt
   fine_of g i before (f ∷ fields) none =
       let at : Placed = record { before = before; field = f; after = fields } in
-      let p = first_here (in_groups (group_tags_in t)) at (placed_from (f ∷ before) fields) none in
-      (first_none (misplaced at) g (group_tags_in t) p.0 i, fine_of g i (f ∷ before) fields p.1)
+      let p = first_here (in_groups groups) at (placed_from (f ∷ before) fields) none in
+      (first_none (misplaced at) g groups p.0 i, fine_of g i (f ∷ before) fields p.1)
 
   groups_fine : (before fields : List Field)
-      → ((g : GroupTags) (i : In g (group_tags_in t)) → IsFine g (group_is g i).apart before fields)
-      → first_of (in_groups (group_tags_in t)) (placed_from before fields) ≡ None
+      → ((g : GroupTags) (i : In g groups) → IsFine g (group_is g i).apart before fields)
+      → first_of (in_groups groups) (placed_from before fields) ≡ None
   unfolding first_of
   groups_fine before [] fine = refl
   groups_fine before (f ∷ fields) fine =
       let at : Placed = record { before = before; field = f; after = fields } in
-      here_first (in_groups (group_tags_in t)) at (placed_from (f ∷ before) fields)
-      (none_first (misplaced at) (group_tags_in t) (λ g i. (fine g i).0))
+      here_first (in_groups groups) at (placed_from (f ∷ before) fields)
+      (none_first (misplaced at) groups (λ g i. (fine g i).0))
       (groups_fine (f ∷ before) fields (λ g i. (fine g i).1))
 
   -- ---- values
@@ -394,8 +392,8 @@ module _ (t : Table Kind) (ok : table_behind t ≡ true) where
 
     -- ---- presence
 
-    module _ (twice_ok : first_of (twice (once_in t)) (placed_from [] fields) ≡ None)
-        (groups_ok : first_of (in_groups (group_tags_in t)) (placed_from [] fields) ≡ None) where
+    module _ (twice_ok : first_of (twice once) (placed_from [] fields) ≡ None)
+        (groups_ok : first_of (in_groups groups) (placed_from [] fields) ≡ None) where
       -- the group of an item is one of the table
       group_in : (items : List (Item Kind)) (group : RepeatingGroup Kind)
           → In (Lines group) items → In (tags_in group) (flat_map group_tags_of items)
@@ -417,8 +415,7 @@ module _ (t : Table Kind) (ok : table_behind t ≡ true) where
           (lines_in (tags_in group) fields) (lines_in (tags_in group) (behind_header fields))
           × (list_all (member_alone group.skipped) group.rows ≡ true)
 
-      fits_one : (item : Item Kind) → In item t.items → item_behind (once_in t) item ≡ true
-          → Fits item
+      fits_one : (item : Item Kind) → In item t.items → item_behind once item ≡ true → Fits item
       fits_one (One row) i ok = let q = both _ _ ok in let r = both _ _ q.1 in (q.0, r.0, r.1)
       fits_one (Party role) i ok = tt
       fits_one (Lines group) i ok =
@@ -434,11 +431,11 @@ module _ (t : Table Kind) (ok : table_behind t ≡ true) where
           )
 
       fits_each : (items : List (Item Kind)) → ((item : Item Kind) → In item items
-          → In item t.items) → list_all (item_behind (once_in t)) items ≡ true
+          → In item t.items) → list_all (item_behind once) items ≡ true
           → AllByRecursion Fits items
       fits_each [] among all = tt
       fits_each (item ∷ items) among all =
-          let p = both (item_behind (once_in t) item) (list_all (item_behind (once_in t)) items) all
+          let p = both (item_behind once item) (list_all (item_behind once) items) all
           in (
             fits_one item (among item (inl refl)) p.0,
             fits_each items (λ x i. among x (inr i)) p.1,
@@ -550,7 +547,7 @@ module _ (t : Table Kind) (ok : table_behind t ≡ true) where
         let c = or_none _ _ b.1 in
         let d = or_none _ _ c.1 in
         let e = or_none _ _ d.1 in
-        let fine : (g : GroupTags) (i : In g (group_tags_in t))
+        let fine : (g : GroupTags) (i : In g groups)
         → IsFine g (group_is g i).apart [] (behind_header fields) =
         λ g i. fine_behind g (group_is g i).apart [] fields (fine_of g i [] fields c.0)
         (once_of g (group_is g i).apart (group_is g i).once_is [] fields a.0) in

@@ -160,9 +160,6 @@ module _ (names : Names) (window : ℕ) (now : ℕ) where
   asked_step (End side) step a is = none_asked (asks session.End step.acts) a is
   asked_step (Frame side body) step a is = by step.acts is
     where
-      number : Option ℕ
-      number = (head_in names window side body now).number
-
       by : (acts : List Act)
           → asked_if (asks (session.Message (head_in names window side body now)) acts)
           (took_of (Frame side body) (session.Message (head_in names window side body now)) acts)
@@ -241,13 +238,12 @@ module _ (makes : DecisionsMake) (hears : AnswersAreHeard) (refusals : RefusalsA
   module _ (active : Bool) (took : Took) (taken : IsTaken e took) (few : took.number ≤ MAX_NUMBER)
       (words : Words) (answer : Answers before active (Some (asked_about took)) (Some words))
       (number : ℕ) where
-    out : Out
+    abbrev out : Out
     out = out_of words.to number words.resend words.said
 
     on_made : words.to ≡ other took.side
         → IsHeardOn took.side (heard_body took.side took.number took.raw)
-        (heard_out (out_of words.to number words.resend words.said))
-        → e.outs ≡ out_of words.to number words.resend words.said ∷ []
+        (heard_out out) → e.outs ≡ out ∷ []
         → IsAnswer before (asked_about took) (Some words) → Made before e
     on_made to on outs (Nears said first is) =
         absurd (not_other took.side (sym (ap (to_of took.side) is) ∙ to))
@@ -255,7 +251,7 @@ module _ (makes : DecisionsMake) (hears : AnswersAreHeard) (refusals : RefusalsA
         absurd (not_refusal took.side
         (sym (refusals took.side took.number took.raw m reads is_one).sort ∙ on.sort))
     on_made to on outs (Goes m reads none unused original known written goes is) =
-        MadeOn took (out_of words.to number words.resend words.said) m (record {
+        MadeOn took out m (record {
           taken = taken;
           gives = record { outs = outs; to = to };
           read = record { reads = reads; is = none };
@@ -264,13 +260,12 @@ module _ (makes : DecisionsMake) (hears : AnswersAreHeard) (refusals : RefusalsA
           on = on;
         })
 
-    words_made : e.outs ≡ out_of words.to number words.resend words.said ∷ []
-        → IsHeard before (asked_about took) words number → Made before e
+    words_made : e.outs ≡ out ∷ [] → IsHeard before (asked_about took) words number → Made before e
     words_made outs (Off to refuse) =
-        MadeOff took (out_of words.to number words.resend words.said) taken
+        MadeOff took out taken
         (record { outs = outs; to = to }) refuse
     words_made outs (Returned to told) =
-        MadeTold took (out_of words.to number words.resend words.said) taken
+        MadeTold took out taken
         (record { outs = outs; to = to }) told
     words_made outs (On to on) = on_made to on outs
         (answer_is before numbered active (asked_about took) words answer)
@@ -310,9 +305,6 @@ module _ (makes : DecisionsMake) (hears : AnswersAreHeard) (refusals : RefusalsA
   rejected took n tag reason is numbered few faulty outs =
       by (bytes_eq (type_of took.raw) (codes "4")) refl
     where
-      out : Out
-      out = reject_out took.side n tag reason took.number (type_of took.raw)
-
       among : In (reject_out took.side n tag reason took.number (type_of took.raw))
           (outs_to took.side e.outs)
       among = subst (λ (l : List Out).

@@ -154,12 +154,20 @@ pub same_took : (t : Option Took) (a b : Took) → t ≡ Some a → t ≡ Some b
 same_took t a b x y = cc (x, y)
 
 -- the only out of an entry
-only_out : (e : Entry) (out o : Out) → e.outs ≡ out ∷ [] → In o e.outs → o ≡ out
+pub only_out : (e : Entry) (out o : Out) → e.outs ≡ out ∷ [] → In o e.outs → o ≡ out
 only_out e out o is i = by (subst (In o) is i)
   where
     by : In o (out ∷ []) → o ≡ out
     by (inl same) = same
     by (inr none) = absurd none
+
+-- it stands among those to its side
+pub own_among : (e : Entry) (out : Out) → e.outs ≡ out ∷ [] → (side : Side) → out.side ≡ side
+    → In out (outs_to side e.outs)
+own_among e out is side to =
+    subst (λ (l : List Out). In out (outs_to side l)) (sym is)
+    (subst (λ (b : Bool). In out (cond b (out ∷ []) []))
+    (sym (ap (is_side side) to ∙ own_side side)) (inl refl))
 
 none_out : (e : Entry) (o : Out) → e.outs ≡ [] → In o e.outs → ⊥
 none_out e o is i = subst (In o) is i
@@ -373,17 +381,13 @@ module _ (past : List Entry) (e : Entry) (took : Took) (out : Out) (m : Message)
       by (numbered out.number (outs_to side x.outs)) refl i
       (λ j. found side to entries j (λ y k o l same. only y (inr k) o l same))
     where
-      own : In out (outs_to side e.outs)
-      own = subst (λ (l : List Out). In out (outs_to side l)) (sym going.gives.outs)
-          (subst (λ (b : Bool). In out (cond b (out ∷ []) []))
-          (sym (ap (is_side side) to ∙ own_side side)) (inl refl))
-
       by : (o : Option Out) → numbered out.number (outs_to side x.outs) ≡ o → In e (x ∷ entries)
           → (In e entries → source_of side out.number entries ≡ Some (took.number, m.letter))
           → source_at (given_next (given_out side out.number entries) (given_of x o))
           ≡ Some (took.number, m.letter)
       by None none (inl same) later = absurd (numbered_some out.number (outs_to side x.outs) out
-          (subst (λ (y : Entry). In out (outs_to side y.outs)) same own) refl none)
+          (subst (λ (y : Entry). In out (outs_to side y.outs)) same
+          (own_among e out going.gives.outs side to)) refl none)
       by None none (inr j) later = later j
       by (Some o) is j later =
           let n = numbered_is out.number (outs_to side x.outs) o is in

@@ -46,6 +46,7 @@ use Rattle.book_laws.specs.HeardLaws.{IsHeardRefusal, RefusalsAreHeard}
 use Rattle.book_laws.proofs.Session.{plain_type, reset_is, reset_kind}
 use Rattle.book_laws.proofs.Session.{read_other as read_other_type}
 use Rattle.book_laws.proofs.Sides.{far_side, own_side}
+use Rattle.book_laws.proofs.Tests.{and-false}
 use Rattle.book_laws.specs.Laws.{HeadersSayNothing}
 use Rattle.book_laws.specs.Pairs.{heard_from, message_in, taken}
 
@@ -221,10 +222,6 @@ one_byte : (x y : Bool) → is_said (if x || y then Ok (record { yes = x }) else
 one_byte false true = refl
 one_byte x y = refl
 
-and_false : (a : Bool) → (a && false) ≡ false
-and_false true = refl
-and_false false = refl
-
 flag_same : (v : List ℕ) → is_said (read_flag v) ≡ bytes_eq v (codes "Y")
 flag_same [] = refl
 flag_same (a ∷ []) = one_byte (a == 89) (a == 78)
@@ -234,7 +231,7 @@ flag_same (a ∷ b ∷ v) =
     ap (λ (t : Bool). is_said (if t then Err Empty else (if (length (a ∷ b ∷ v) == 1)
     && (a == 89 || a == 78) then Ok (record { yes = a == 89 }) else Err Form))) some
     ∙ ap (λ (t : Bool). is_said (if t && (a == 89 || a == 78)
-    then Ok (record { yes = a == 89 }) else Err Form)) long ∙ sym (and_false (a == 89))
+    then Ok (record { yes = a == 89 }) else Err Form)) long ∙ sym (and-false (a == 89))
 
 resend_same : (value : Option (List ℕ)) → is_yes value ≡ unwrap_or (option_map flag_of value) false
 resend_same None = refl

@@ -94,9 +94,6 @@ module _ (side : Side) where
   heard_placed (p ∷ ps) plain =
       by p.out.admin refl (heard_placed ps (λ q i. plain q (inr i))) (plain p (inl refl))
     where
-      rest : List Placed
-      rest = filter (λ (x : Placed). not x.out.admin) ps
-
       by : (b : Bool) → p.out.admin ≡ b
           → heard (map said (filter (λ (x : Placed). not x.out.admin) ps)) ≡ heard (map said ps)
           → (p.out.admin ≡ true → (said p).sort ≡ Plain)

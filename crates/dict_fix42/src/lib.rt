@@ -8,5 +8,5 @@ mod requests;
 mod tables;
 mod writing;
 
-pub use message::{RequestTables, good42, read42, request_table, type42, write42};
+pub use message::{RequestTables, read42, request_table, type42, write42};
 pub use requests::{Cancel42, Msg42, New42, Replace42, Status42};

@@ -6,7 +6,7 @@ ghost use Rattle.field_groups.specs.Field.{body_of};
 ghost use Rattle.message_tables.specs.CodeTables.{table_of as code_table};
 ghost use Rattle.row_values.specs.CodeKinds.{kind_of};
 ghost use Rattle.first_faults.specs.Faults.{message_by};
-ghost use Rattle.first_faults.specs.Gives.{Gives, IsCleanIf};
+ghost use Rattle.first_faults.specs.Gives.{Gives};
 ghost use Rattle.dict_fix42.specs.Message.{message42, table_of};
 ghost use Rattle.rows_fix42.specs.Header.{table};
 ghost use Rattle.dict_fix42.specs.Readable.{IsReadable42};
@@ -20,7 +20,7 @@ use crate::reading::{cancel_request, new_order, replace_request, status_request}
 use crate::requests::Msg42;
 use crate::tables;
 use crate::writing::{cancel_parts, new_parts, replace_parts, status_parts};
-use field_groups::{Fields, Split, is_type};
+use field_groups::{Split, is_type};
 use first_faults::{Indexed, good_fields};
 use message_tables::Table;
 use order_meaning::Fault;
@@ -108,22 +108,6 @@ impl RequestTables {
         } else {
             None
         }
-    }
-}
-
-/// The fields of a body, where they are whole and at no fault beside the table of their type. It
-/// takes no memory.
-///
-/// # Errors
-///
-/// `NotSupported` for a type that is none of D, F, G and H. `Session` and `NoCounterpart` for the
-/// first fault, as `read42` has it.
-pub fn good42<'s, 'a>(msg_type: &[u8], split: &'s Split<'a>) -> Result<&'s Fields<'a>, Fault>
-    ensures { IsCleanIf (table_of msg_type.now) split.now.fields split.now.fault result }
-{
-    match request_table(msg_type) {
-        None => Err(Fault::NotSupported),
-        Some(table) => good_fields(table, split),
     }
 }
 

@@ -21,12 +21,10 @@ by_exec : (trade correct bust status : Bool) (exec_type : ℕ) (ref_id id : List
     (if status then Status else Other exec_type)))) ref_id
     (unwrap_or (if status then None else Some id) []) qty price
 by_exec true correct bust true exec_type ref_id id qty price t c = let e = t refl in cc
-by_exec true correct bust false exec_type ref_id id qty price t c = refl
 by_exec false true bust true exec_type ref_id id qty price t c = let e = c refl in cc
-by_exec false true bust false exec_type ref_id id qty price t c = refl
 by_exec false false true status exec_type ref_id id qty price t c = refl
 by_exec false false false true exec_type ref_id id qty price t c = refl
-by_exec false false false false exec_type ref_id id qty price t c = refl
+by_exec trade correct bust status exec_type ref_id id qty price t c = refl
 
 apart : (t k : ℕ) → (k == 73) ≡ false → (t == k) ≡ true → (t == 73) ≡ false
 apart t k other e = grind (arith, nat_tests)

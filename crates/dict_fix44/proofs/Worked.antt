@@ -1,14 +1,15 @@
 -- Worked messages of FIX 4.4: what they say and mean, and how a book changes by them.
 use Rattle.std.specs.Prelude.{◌≡◌, ℕ, ◌*◌, pos, List, [], ◌∷◌, ◌++◌, codes}
-use Rattle.std.specs.Prelude.{Option, Some, None, Result, Ok, Err}
+use Rattle.std.specs.Prelude.{Option, Some, None}
 use Rattle.std.specs.Option.{option_map}
+use Rattle.std.specs.Result.{result_err, result_ok}
 use Rattle.std.specs.Fmt.{digits}
 use Rattle.value_kinds.specs.ValueKind.{spelling, units_of_text}
 use Rattle.typed_fields.specs.Digits.{are_digits, number_of, has_pattern, zero_padded}
 use Rattle.typed_fields.specs.Digits.{without_leading_zeros, without_trailing_zeros}
 use Rattle.field_groups.specs.Field.{Field}
 use Rattle.field_groups.specs.HeadValues.{number_in}
-use Rattle.message_tables.specs.Tables.{Tag, Said, Message, first_of, said_at}
+use Rattle.message_tables.specs.Tables.{Tag, Said, ◌>>=◌, first_of, said_at}
 use Rattle.message_tables.specs.FirstFault.{first_fault, message_of}
 use Rattle.order_meaning.specs.Book.{Book, Order}
 use Rattle.order_meaning.specs.Book.{reported, changed, in_phase}
@@ -34,19 +35,11 @@ abbrev asked : {A : Type 0} → (Request → A) → List Field → List Field �
 asked field between last = option_map field (sense44 (codes "D") (order between last))
 
 abbrev said_in : ℕ → List Field → List Field → Said
-said_in tag between last =
-    by (request_message44 (codes "D") (order between last) None)
-  where
-    by : Result Message Fault → Said
-    by (Ok m) = said_at m.cells (Tag tag)
-    by (Err fault) = None
+said_in tag between last = result_ok (request_message44 (codes "D") (order between last) None)
+    >>= (λ m. said_at m.cells (Tag tag))
 
 abbrev fault_of : List Field → List Field → Option Fault
-fault_of between last = by (request_message44 (codes "D") (order between last) None)
-  where
-    by : Result Message Fault → Option Fault
-    by (Ok m) = None
-    by (Err fault) = Some fault
+fault_of between last = result_err (request_message44 (codes "D") (order between last) None)
 
 abbrev party : List ℕ → List ℕ → List Field
 party id role = (448, id) ∷ (452, role) ∷ []
@@ -128,11 +121,8 @@ reports = search
 -- ---- books
 
 abbrev after : Book → List Field → List Field → Option Book
-after book fields last = by (report_message44 (codes "8") (told fields last) None)
-  where
-    by : Result Message Fault → Option Book
-    by (Ok m) = Some (step44 book m)
-    by (Err fault) = None
+after book fields last =
+    option_map (step44 book) (result_ok (report_message44 (codes "8") (told fields last) None))
 
 abbrev whole : ℕ → ℕ → List (List ℕ) → Phase → Order
 whole leaves cum seen phase = record {

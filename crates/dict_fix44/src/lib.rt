@@ -3,8 +3,6 @@
 #![tactic(auto)]
 
 pub mod laws;
-mod refusals;
-mod requests;
+mod tables;
 
-pub use refusals::refusal_table;
-pub use requests::RequestTables;
+pub use tables::{RequestTables, refusal_table};

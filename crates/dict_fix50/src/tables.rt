@@ -130,37 +130,29 @@ const STATUS_REQUEST: [Item<Kind>; 15] = [
     one!(54, Value(Code(b"123456")), Required), // Side
 ];
 
+/// A table of requests.
+macro_rules! table {
+    ($letter:literal, $items:expr) => {
+        Table {
+            letter: $letter,
+            header: &HEADER,
+            items: &$items,
+            strict: false,
+        }
+    };
+}
+
 /// The table of New Order - Single.
-static NEW_ORDER_TABLE: Table<Kind> = Table {
-    letter: b'D',
-    header: &HEADER,
-    items: &NEW_ORDER,
-    strict: false,
-};
+static NEW_ORDER_TABLE: Table<Kind> = table!(b'D', NEW_ORDER);
 
 /// The table of Order Cancel Request.
-static CANCEL_REQUEST_TABLE: Table<Kind> = Table {
-    letter: b'F',
-    header: &HEADER,
-    items: &CANCEL_REQUEST,
-    strict: false,
-};
+static CANCEL_REQUEST_TABLE: Table<Kind> = table!(b'F', CANCEL_REQUEST);
 
 /// The table of Order Cancel/Replace Request.
-static REPLACE_REQUEST_TABLE: Table<Kind> = Table {
-    letter: b'G',
-    header: &HEADER,
-    items: &REPLACE_REQUEST,
-    strict: false,
-};
+static REPLACE_REQUEST_TABLE: Table<Kind> = table!(b'G', REPLACE_REQUEST);
 
 /// The table of Order Status Request.
-static STATUS_REQUEST_TABLE: Table<Kind> = Table {
-    letter: b'H',
-    header: &HEADER,
-    items: &STATUS_REQUEST,
-    strict: false,
-};
+static STATUS_REQUEST_TABLE: Table<Kind> = table!(b'H', STATUS_REQUEST);
 
 /// The table of New Order - Single.
 pub(crate) fn new_order() -> &'static Table<Kind>

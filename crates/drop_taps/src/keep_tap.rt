@@ -89,6 +89,7 @@ impl KeepTap {
         ensures calls { self.new.calls ≡
             called self.old.calls (faults_after result self.old.calls.faults) }
         ensures failed { self.new.failed ≡ self.old.failed }
+        ensures refused { self.new.refused ≡ self.old.refused }
         ensures cause { HasTapCause self.old.calls.faults self.new.calls.faults result }
     {
         if self.calls.begin().is_err() {
@@ -122,6 +123,7 @@ impl Tap for KeepTap {
         ensures tally { entries_alone (length self.new.entries)
             ≡ tally_after false result entry.now (entries_alone (length self.old.entries)) }
         ensures failed { self.new.failed ≡ is_err result }
+        ensures took { OnOk result (self.new.refused ≡ self.old.refused) }
         ensures refused { OnErr result (ForSome self.new.refused (λ e. e ≡ entry.now)) }
         ensures cause { HasTapCause self.old.calls.faults self.new.calls.faults result }
         ensures listed { result ≡ Err failures.Fault ↔ IsListed self.old.calls }

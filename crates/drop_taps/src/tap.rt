@@ -1,6 +1,6 @@
 //! What a tap is.
 
-ghost use Rattle.std.specs.Prelude.{◌≡◌, ℕ, List, Bool, false, IsTrue, IsOk, is_err, OnErr};
+ghost use Rattle.std.specs.Prelude.{◌≡◌, ℕ, List, Bool, false, IsTrue, IsOk, is_err, OnOk, OnErr};
 ghost use Rattle.std.specs.declared.option.Option.{Option};
 ghost use Rattle.std.specs.Option.{ForSome};
 ghost use Rattle.pair_entries.specs.declared.entry.Entry.{Entry};
@@ -83,6 +83,7 @@ pub trait Tap: Drop {
             ≡ tally_after (counts_all self.old) result entry.now (tally self.old) }
         ensures counts { counts_all self.new ≡ counts_all self.old }
         ensures failed { has_failed self.new ≡ is_err result }
+        ensures took { OnOk result (refused self.new ≡ refused self.old) }
         ensures refused { OnErr result (ForSome (refused self.new) (λ e. e ≡ entry.now)) }
         ensures sure { IsTrue (never_fails self.old) → IsOk result }
         ensures stays_sure { never_fails self.new ≡ never_fails self.old }

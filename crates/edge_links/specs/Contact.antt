@@ -1,5 +1,5 @@
 -- Own: how long a peer is put off behind its connection; docs/DECISIONS.md, "The edge".
-use Rattle.std.specs.Prelude.{ℕ, Bool, true, false, Some, None, [], ◌+◌, ◌||◌, min, is_some}
+use Rattle.std.specs.Prelude.{◌≡◌, ℕ, Bool, true, false, Some, None, [], ◌+◌, ◌||◌, min, is_some}
 use Rattle.std.specs.Prelude.{if◌then◌else◌}
 use Rattle.std.specs.declared.option.Option.{Option}
 use Rattle.edge_logic.specs.BackOff.{later, not_before}
@@ -35,6 +35,12 @@ abbrev pub delay_behind : Dealings → ℕ → Bool → Delay
 delay_behind dealings now was_closed =
     held_since (if is_low dealings.talk then lengthened dealings.delay now else dealings.delay)
     (late_since dealings.talk was_closed)
+
+-- a connection has ended, closed by the peer in order or not: at some moment of the clock the peer
+-- was put off by what was said on it
+abbrev pub PutOffBehind : Dealings → Dealings → Bool → Type 0
+PutOffBehind old new was_closed =
+    (now : ℕ) × (new ≡ record old { delay = delay_behind old now was_closed })
 
 -- A session stands: the next pause is the shortest one again.
 abbrev pub stood : Dealings → Dealings

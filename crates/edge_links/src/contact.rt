@@ -1,8 +1,10 @@
 //! What the edge keeps of a peer beside its connection: what was said, how long the peer is put
 //! off, the lines on it, and its last connection's last words.
 
-ghost use Rattle.std.specs.Prelude.{◌≡◌, ◌-◌, is_some};
-ghost use Rattle.edge_waits.specs.Talk.{began_next, low_said, link_end_of};
+ghost use Rattle.std.specs.Prelude.{◌≡◌, ◌⊎◌, ◌-◌, is_some};
+ghost use Rattle.edge_waits.specs.Fields.{or_else};
+ghost use Rattle.edge_waits.specs.Said.{logout_text};
+ghost use Rattle.edge_waits.specs.Talk.{heard_next, began_next, low_said, link_end_of};
 ghost use Rattle.edge_links.specs.Contact.{unsaid, is_low, delay_behind, stood};
 
 use crate::hung_up::HungUp;
@@ -78,8 +80,13 @@ impl<'a, R: System, W: Write + Drop> Contact<'a, R, W> {
         self.tell(Notice::Connected(self.peer, address));
     }
 
-    /// These bytes came. They are kept before a session stands, as [`Talk::hear`] says.
-    pub fn hear(&mut self, bytes: &[u8]) {
+    /// These bytes came. They are kept before a session stands, as [`Talk::hear`] says, where there
+    /// is memory for them.
+    pub fn hear(&mut self, bytes: &[u8])
+        ensures { (self.new ≡ self.old) ⊎ (self.new ≡ record self.old {
+          talk = record self.old.talk { heard = heard_next self.old.talk bytes.now };
+        }) }
+    {
         let _ = self.talk.hear(bytes); // what there is no memory for is not told
     }
 
@@ -94,9 +101,19 @@ impl<'a, R: System, W: Write + Drop> Contact<'a, R, W> {
         self.talk.note(bytes);
     }
 
-    /// The gateway sends this frame at this moment.
+    /// The gateway sends this frame at this moment. The text of a Logout is kept, where there is
+    /// memory for it.
     pub fn say(&mut self, frame: &[u8], now: u64)
-        ensures { self.new.talk.began ≡ began_next self.old.talk frame.now now }
+        ensures began { self.new.talk.began ≡ began_next self.old.talk frame.now now }
+        ensures farewell { (self.new.talk.farewell ≡ self.old.talk.farewell)
+            ⊎ (self.new.talk.farewell
+            ≡ or_else (logout_text frame.now) self.old.talk.farewell) }
+        ensures same { self.new ≡ record self.old {
+          talk = record self.old.talk {
+            farewell = self.new.talk.farewell;
+            began = self.new.talk.began;
+          };
+        } }
     {
         let _ = self.talk.say(frame, now); // what there is no memory for is not told
     }
@@ -154,11 +171,15 @@ impl<'a, R: System, W: Write + Drop> Contact<'a, R, W> {
         }
     }
 
-    fn tell_ended(&mut self, ending: Ending<'_>, next: NextTry) {
+    fn tell_ended(&mut self, ending: Ending<'_>, next: NextTry)
+        ensures { self.new ≡ self.old }
+    {
         self.tell(Notice::Ended(self.peer, ending, next));
     }
 
-    fn tell_failed(&mut self, fault: &Fault, next: NextTry) {
+    fn tell_failed(&mut self, fault: &Fault, next: NextTry)
+        ensures { self.new ≡ self.old }
+    {
         match format!(in self.rt.alloc(); "{fault}") {
             Ok(reason) => self.tell_ended(Ending::ByFailure(reason.as_str()), next),
             Err(_) => self.tell_ended(Ending::ByFailure("out of memory"), next),
@@ -169,12 +190,14 @@ impl<'a, R: System, W: Write + Drop> Contact<'a, R, W> {
     fn why(&self) -> Vec<u8> {
         let mut why = Vec::new(self.rt.alloc());
         let now = moment(self.rt).unwrap_or(0);
-        let _ = self.talk.put_why(&mut why, now); // as far as there is memory
+        let _ = self.talk.put_why(&mut why, now); // all of it, or nothing for want of memory
         why
     }
 
     /// Says that the connection ended so, and why where no session had stood.
-    pub fn tell_end(&mut self, parting: Parting<'_>, next: NextTry) {
+    pub fn tell_end(&mut self, parting: Parting<'_>, next: NextTry)
+        ensures { self.new ≡ self.old }
+    {
         let why = self.why();
         let why = str::from_utf8(&why).unwrap_or("");
         let ending = match (parting, self.talk.is_active()) {
@@ -188,13 +211,17 @@ impl<'a, R: System, W: Write + Drop> Contact<'a, R, W> {
     }
 
     /// The gateway has ended this connection, of which the peer is to have the last words.
-    pub fn hang_up(&mut self, link: Link) {
+    pub fn hang_up(&mut self, link: Link)
+        ensures { self.new ≡ self.old }
+    {
         self.hung_up = Some(HungUp::new(link, ticks(self.rt)));
         self.is_gone();
     }
 
     /// Goes on with a connection that was ended, and answers whether nothing of it is left.
-    pub fn is_gone(&mut self) -> bool {
+    pub fn is_gone(&mut self) -> bool
+        ensures { self.new ≡ self.old }
+    {
         let over = match &mut self.hung_up {
             Some(hung_up) => hung_up.go_on(ticks(self.rt)),
             None => true,

@@ -1,5 +1,8 @@
 //! A connection that the gateway has ended, until the peer has what was said on it.
 
+ghost use Rattle.std.specs.Prelude.{◌≡◌, nat_le, true, false};
+ghost use Rattle.edge_logic.specs.BackOff.{later};
+
 use crate::link::Link;
 
 /// How long a connection that was ended is kept at most, in milliseconds.
@@ -17,7 +20,10 @@ pub(crate) struct HungUp {
 
 impl HungUp {
     /// A connection that ends now, in milliseconds of the clock that never goes back.
-    pub(crate) fn new(link: Link, now: u64) -> HungUp {
+    pub(crate) fn new(link: Link, now: u64) -> HungUp
+        ensures until { result.until ≡ later now FAREWELL }
+        ensures open { result.is_shut ≡ false }
+    {
         HungUp {
             link,
             until: now.saturating_add(FAREWELL),
@@ -25,8 +31,12 @@ impl HungUp {
         }
     }
 
-    /// Goes on with what is to be written and read off, and answers whether the connection is over.
-    pub(crate) fn go_on(&mut self, now: u64) -> bool {
+    /// Goes on with what is to be written and read off, and answers whether the connection is over,
+    /// as it is once its time has passed.
+    pub(crate) fn go_on(&mut self, now: u64) -> bool
+        ensures until { self.new.until ≡ self.old.until }
+        ensures over { nat_le self.old.until now ≡ true → result ≡ true }
+    {
         if now >= self.until {
             return true;
         }

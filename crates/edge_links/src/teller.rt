@@ -1,5 +1,7 @@
 //! Lines for the operator, which never wait for their reader.
 
+ghost use Rattle.std.specs.Prelude.{◌≡◌, ◌⊎◌, ◌+◌, ◌-◌, ◌^◌, min, IfOk};
+
 use crate::system::System;
 use edge_logic::{Lost, Notice, line, moment};
 use mio::unix::SourceFd;
@@ -49,7 +51,9 @@ impl<W: Write + Drop> Teller<W> {
     ///
     /// # Errors
     /// The system's error, and for want of memory.
-    pub fn new<R: System>(rt: &R, out: W) -> io::Result<Teller<W>> {
+    pub fn new<R: System>(rt: &R, out: W) -> io::Result<Teller<W>>
+        ensures { IfOk result (λ teller. teller.lost ≡ 0) }
+    {
         let poll = Poll::new(rt)?;
         let events = Events::with_capacity(rt.alloc(), 1)?;
         let watched = poll.registry().register(
@@ -71,12 +75,16 @@ impl<W: Write + Drop> Teller<W> {
     }
 
     /// Whether standard error is a file, which takes each line at once.
-    pub fn tells_a_file(&self) -> bool {
+    pub fn tells_a_file(&self) -> bool
+        ensures { result ≡ self.now.is_file }
+    {
         self.is_file
     }
 
     // Whether a part of a line can be written without a wait.
-    fn takes_part(&mut self) -> bool {
+    fn takes_part(&mut self) -> bool
+        ensures { self.new.lost ≡ self.old.lost }
+    {
         match &mut self.ready {
             Some(poll) => is_watched(poll) && is_reported(poll, &mut self.events),
             None => true,
@@ -84,7 +92,9 @@ impl<W: Write + Drop> Teller<W> {
     }
 
     // Writes what can be written without a wait, which is asked before each part.
-    fn write_at_once(&mut self, lines: &[u8]) -> io::Result<()> {
+    fn write_at_once(&mut self, lines: &[u8]) -> io::Result<()>
+        ensures { self.new.lost ≡ self.old.lost }
+    {
         for part in lines.chunks(PIPE_BUF) {
             if !self.takes_part() {
                 return Err(io::Error::from(io::ErrorKind::WouldBlock));
@@ -95,14 +105,18 @@ impl<W: Write + Drop> Teller<W> {
     }
 
     // Writes the line of a notice.
-    fn write<R: System>(&mut self, rt: &R, notice: Notice<'_>) -> io::Result<()> {
+    fn write<R: System>(&mut self, rt: &R, notice: Notice<'_>) -> io::Result<()>
+        ensures { self.new.lost ≡ self.old.lost }
+    {
         let now = moment(rt).unwrap_or(0);
         let line = line(rt.alloc(), now, notice, Lost(self.lost))?;
         self.write_at_once(&line)
     }
 
-    /// Writes the line of a notice, or loses it.
-    pub fn tell<R: System>(&mut self, rt: &R, notice: Notice<'_>) {
+    /// Writes the line of a notice, which says how many were lost before it, or loses it.
+    pub fn tell<R: System>(&mut self, rt: &R, notice: Notice<'_>)
+        ensures { (self.new.lost ≡ 0) ⊎ (self.new.lost ≡ min (self.old.lost + 1) (2 ^ 64 - 1)) }
+    {
         match self.write(rt, notice) {
             Ok(()) => self.lost = 0,
             Err(_) => self.lost = self.lost.saturating_add(1),
@@ -110,7 +124,10 @@ impl<W: Write + Drop> Teller<W> {
     }
 
     /// Writes lines as they are, or loses them.
-    pub fn put(&mut self, lines: &[u8]) {
+    pub fn put(&mut self, lines: &[u8])
+        ensures { (self.new.lost ≡ self.old.lost)
+            ⊎ (self.new.lost ≡ min (self.old.lost + 1) (2 ^ 64 - 1)) }
+    {
         if self.write_at_once(lines).is_err() {
             self.lost = self.lost.saturating_add(1);
         }

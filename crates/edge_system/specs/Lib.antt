@@ -1,2 +1,4 @@
 pub mod JournalFile
+pub mod Place
 pub mod Stage
+pub mod Tries

@@ -1,10 +1,15 @@
 //! The client's side: a port that is listened on, those who wait for their Logon, and one
 //! connection at a time that holds the client's place.
 
-ghost use Rattle.std.specs.Prelude.{◌≡◌, ◌<◌, ◌&&◌, length, false, is_ok, is_some, IfOk};
-ghost use Rattle.std.specs.Prelude.{None, true};
+ghost use Rattle.std.specs.Prelude.{◌≡◌, ◌≢◌, ◌<◌, ◌&&◌, length, false, true, is_ok, is_some};
+ghost use Rattle.std.specs.Prelude.{None, Ok, IfOk, IfSome};
+ghost use Rattle.frame_grammar.specs.declared.frame.Kind.TheVariants.{Fix42};
 ghost use Rattle.wires.specs.Wire.{Fits, may_come, came_of};
+ghost use Rattle.wires.specs.declared.wire.Arrival.TheVariants as arrivals;
 ghost use Rattle.edge_logic.specs.Order.{InOrder};
+ghost use Rattle.edge_links.specs.Contact.{PutOffBehind};
+ghost use Rattle.edge_system.specs.Place.{BeginsWithLogon};
+ghost use Rattle.edge_system.specs.Tries.{MayCome};
 
 use edge_links::{Contact, Link, Parting, System, Teller, Visitor};
 use edge_logic::{
@@ -45,6 +50,7 @@ pub struct ClientListener<'a, R: System, W: Write + Drop> {
     /// What the client said before it had the place.
     held: Held,
     link: Option<Link>,
+    ghost of_client: { framer.kind ≡ Fix42 },
 }
 
 impl<'a, R: System, W: Write + Drop> ClientListener<'a, R, W> {
@@ -58,6 +64,7 @@ impl<'a, R: System, W: Write + Drop> ClientListener<'a, R, W> {
         teller: Teller<W>,
         framer: Framer,
     ) -> ClientListener<'a, R, W>
+        requires { framer.kind ≡ Fix42 }
         ensures { result.link ≡ None }
     {
         ClientListener {
@@ -83,7 +90,8 @@ impl<'a, R: System, W: Write + Drop> ClientListener<'a, R, W> {
     // while: of a client that has not begun the day each try takes numbers of the gateway, up to
     // its own.
     fn end(&mut self, parting: Parting<'_>)
-        ensures { self.new.link ≡ self.old.link }
+        ensures link { self.new.link ≡ self.old.link }
+        ensures put_off { PutOffBehind self.old.contact self.new.contact false }
     {
         let now = ticks(self.rt);
         self.contact.put_off(now, false);
@@ -187,7 +195,7 @@ impl<'a, R: System, W: Write + Drop> ClientListener<'a, R, W> {
             return;
         }
         let mut text = Vec::new(self.rt.alloc());
-        let _ = put_closing(&mut text, why, &visitor.heard); // as far as there is memory
+        let _ = put_closing(&mut text, why, &visitor.heard); // all of it, or nothing
         let why = str::from_utf8(&text).unwrap_or("");
         let nth = self.strangers;
         self.contact
@@ -205,7 +213,8 @@ impl<'a, R: System, W: Write + Drop> ClientListener<'a, R, W> {
 
     // Hears a connection that waits. It is given back where its Logon has come.
     fn hear_visitor(&mut self, mut visitor: Visitor) -> Option<Visitor>
-        ensures { self.new.link ≡ self.old.link }
+        ensures link { self.new.link ≡ self.old.link }
+        ensures ready { IfSome result (λ ready. BeginsWithLogon ready.heard.items) }
     {
         let Ok((stands, came)) = visitor.listen(&mut self.framer, ticks(self.rt)) else {
             return None;
@@ -223,7 +232,8 @@ impl<'a, R: System, W: Write + Drop> ClientListener<'a, R, W> {
 
     // Hears those who wait, up to the first whose Logon has come.
     fn hear_lobby(&mut self) -> Option<Visitor>
-        ensures { self.new.link ≡ self.old.link }
+        ensures link { self.new.link ≡ self.old.link }
+        ensures ready { IfSome result (λ ready. BeginsWithLogon ready.heard.items) }
     {
         for _ in 0..self.lobby.len() {
             let visitor = self.lobby.take_oldest()?;
@@ -246,7 +256,9 @@ impl<'a, R: System, W: Write + Drop> ClientListener<'a, R, W> {
 
     // Takes those who come, up to the first whose Logon has come.
     fn take_all(&mut self) -> Result<Option<Visitor>, Fault>
-        ensures { self.new.link ≡ self.old.link }
+        ensures link { self.new.link ≡ self.old.link }
+        ensures ready { IfOk result (λ found. IfSome found (λ ready.
+            BeginsWithLogon ready.heard.items)) }
     {
         for _ in 0..TAKEN {
             let taken = match self.accept() {
@@ -267,7 +279,8 @@ impl<'a, R: System, W: Write + Drop> ClientListener<'a, R, W> {
 
     // Gives the client's place to a connection, and closes those that wait.
     fn welcome(&mut self, visitor: Visitor)
-        ensures { is_some self.new.link ≡ true }
+        ensures link { is_some self.new.link ≡ true }
+        ensures held { self.new.held ≡ visitor.heard.items }
     {
         for _ in 0..self.lobby.len() {
             if let Some(other) = self.lobby.take_oldest() {
@@ -291,7 +304,10 @@ impl<'a, R: System, W: Write + Drop> ClientListener<'a, R, W> {
 
     // The next connection that has sent a whole Logon.
     fn next(&mut self) -> Result<Option<Visitor>, Fault>
-        ensures { self.new.link ≡ self.old.link }
+        ensures link { self.new.link ≡ self.old.link }
+        ensures ready { IfOk result (λ found. IfSome found (λ ready.
+            BeginsWithLogon ready.heard.items)) }
+        ensures over { IfOk result (λ found. IfSome found (λ _. MayCome self.old.contact)) }
     {
         if self.contact.left(ticks(self.rt)) > 0 {
             self.shut();
@@ -310,6 +326,8 @@ impl<'a, R: System, W: Write + Drop> ClientListener<'a, R, W> {
         requires { self.old.link ≡ None }
         ensures fits { IfOk result (λ arrived. Fits arrived buf.now) }
         ensures order { InOrder false (is_some self.new.link) result buf.now }
+        ensures place { result ≡ Ok arrivals.Opened → BeginsWithLogon self.new.held }
+        ensures over { result ≡ Ok arrivals.Opened → MayCome self.old.contact }
     {
         match self.next()? {
             Some(visitor) => {
@@ -337,6 +355,7 @@ impl<'a, R: System, W: Write + Drop> ClientListener<'a, R, W> {
         requires room { 0 < length buf.old }
         ensures fits { IfOk result (λ arrived. Fits arrived buf.new) }
         ensures order { InOrder true (is_some self.new.link) result buf.new }
+        ensures only { result ≢ Ok arrivals.Opened }
     {
         let count = self.held.hand_on(buf);
         self.shared.note_activity();
@@ -354,6 +373,7 @@ impl<'a, R: System, W: Write + Drop> ClientListener<'a, R, W> {
         requires room { 0 < length buf.old }
         ensures fits { IfOk result (λ arrived. Fits arrived buf.new) }
         ensures order { InOrder true (is_some self.new.link) result buf.new }
+        ensures only { result ≢ Ok arrivals.Opened }
     {
         if !self.held.is_empty() {
             return self.hand_on(link, buf);
@@ -386,11 +406,17 @@ impl<'a, R: System, W: Write + Drop> Peer for ClientListener<'a, R, W> {
     ghost within = { λ client. is_some client.link };
 
     #[tactic(auto, using(edge_links::proofs::Come::in_order_from))]
-    fn arrive(&mut self, buf: &mut [u8]) -> Result<Arrival, Fault> {
+    fn arrive(&mut self, buf: &mut [u8]) -> Result<Arrival, Fault>
+        requires room { 0 < length buf.old }
+        ensures fits { IfOk result (λ arrived. Fits arrived buf.new) }
+        ensures order { InOrder (is_some self.old.link) (is_some self.new.link) result buf.new }
+        ensures place { result ≡ Ok arrivals.Opened → BeginsWithLogon self.new.held }
+        ensures over { result ≡ Ok arrivals.Opened → MayCome self.old.contact }
+    {
         if self.shared.is_ending() {
             return Ok(Arrival::Nothing);
         }
-        self.is_gone();
+        self.contact.is_gone();
         match mem::replace(&mut self.link, None) {
             None => self.open(buf),
             Some(link) => {
@@ -418,7 +444,11 @@ impl<'a, R: System, W: Write + Drop> Peer for ClientListener<'a, R, W> {
         }
     }
 
-    fn hang_up(&mut self) {
+    fn hang_up(&mut self)
+        ensures within { is_some self.new.link ≡ false }
+        ensures put_off { is_some self.old.link ≡ true →
+            PutOffBehind self.old.contact self.new.contact false }
+    {
         if let Some(link) = mem::replace(&mut self.link, None) {
             self.contact.hang_up(link);
             self.end(Parting::ByUs);

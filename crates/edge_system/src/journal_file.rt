@@ -3,6 +3,7 @@
 ghost use Rattle.std.specs.Prelude.{◌≡◌, None, IfOk};
 ghost use Rattle.std.specs.Io.{ReadsAtMost};
 ghost use Rattle.edge_system.specs.JournalFile.{TellsRefusal, is_no_journal};
+ghost use Rattle.edge_system.specs.declared.journal_file.Access.TheVariants as accesses;
 
 use edge_logic::{Denial, HEAD, Tally, fill, folder, may_be_journal};
 use outside::{Disk, Failed};
@@ -95,8 +96,8 @@ fn open_to_write<R: Files<File = File>>(rt: &R, path: &str) -> Result<File, Deni
     Ok(file)
 }
 
-// The file as one that is only read: it is not made, need not be writable, and is not locked, since a
-// gateway that runs on it changes no byte in front of its closing gate.
+// The file as one that is only read: it is not made, need not be writable, and is not locked, since
+// a gateway that runs on it changes no byte in front of its closing gate.
 fn open_to_read<R: Files<File = File>>(rt: &R, path: &str) -> Result<File, Denial> {
     look(rt, path)?;
     let file = File::open(rt, path)?;
@@ -140,7 +141,9 @@ impl<'a, R: Files<File = File>> Lazy<'a, R> {
 impl<'a, R: Files<File = File>> JournalFile<'a, R> {
     // The file at this path.
     fn with_access(rt: &'a R, path: &'a str, access: Access) -> JournalFile<'a, R>
-        ensures { result.tally ≡ record { reads = 0; faults = 0; denial = None } }
+        ensures path { result.lazy.path.now ≡ path.now }
+        ensures access { result.lazy.access ≡ access }
+        ensures tally { result.tally ≡ record { reads = 0; faults = 0; denial = None } }
     {
         JournalFile {
             lazy: Lazy {
@@ -155,7 +158,9 @@ impl<'a, R: Files<File = File>> JournalFile<'a, R> {
 
     /// The file at this path, which is opened, or made, at the first call that needs it.
     pub fn new(rt: &'a R, path: &'a str) -> JournalFile<'a, R>
-        ensures { result.tally ≡ record { reads = 0; faults = 0; denial = None } }
+        ensures path { result.lazy.path.now ≡ path.now }
+        ensures access { result.lazy.access ≡ accesses.Write }
+        ensures tally { result.tally ≡ record { reads = 0; faults = 0; denial = None } }
     {
         JournalFile::with_access(rt, path, Access::Write)
     }
@@ -163,7 +168,9 @@ impl<'a, R: Files<File = File>> JournalFile<'a, R> {
     /// The file at this path, to be read alone, also while a gateway has it: it is neither made nor
     /// locked, and a write fails.
     pub fn to_read(rt: &'a R, path: &'a str) -> JournalFile<'a, R>
-        ensures { result.tally ≡ record { reads = 0; faults = 0; denial = None } }
+        ensures path { result.lazy.path.now ≡ path.now }
+        ensures access { result.lazy.access ≡ accesses.Read }
+        ensures tally { result.tally ≡ record { reads = 0; faults = 0; denial = None } }
     {
         JournalFile::with_access(rt, path, Access::Read)
     }

@@ -1,5 +1,8 @@
 //! The file that asks a running gateway for an orderly end.
 
+ghost use Rattle.std.specs.Prelude.{◌≡◌, IfSome};
+ghost use Rattle.edge_logic.specs.declared.journal.Refusal.TheVariants as refusals;
+
 use edge_logic::Refusal;
 use std::rt::Files;
 use std::{fs, io};
@@ -12,7 +15,9 @@ pub struct StopFile<'a> {
 
 impl<'a> StopFile<'a> {
     /// The file at this path.
-    pub fn new(path: &'a str) -> StopFile<'a> {
+    pub fn new(path: &'a str) -> StopFile<'a>
+        ensures { result.path.now ≡ path.now }
+    {
         StopFile { path }
     }
 
@@ -22,7 +27,9 @@ impl<'a> StopFile<'a> {
     }
 
     /// Why a gateway does not start, where the file is there already.
-    pub fn refusal<R: Files>(&self, rt: &R) -> Option<Refusal<'a>> {
+    pub fn refusal<R: Files>(&self, rt: &R) -> Option<Refusal<'a>>
+        ensures { IfSome result (λ refusal. refusal ≡ refusals.StopLies self.now.path) }
+    {
         if self.is_there(rt) {
             return Some(Refusal::StopLies(self.path));
         }

@@ -1,9 +1,14 @@
 //! The venue's side: the gateway connects to it, and again a while after that fails or ends.
 
-ghost use Rattle.std.specs.Prelude.{◌≡◌, ◌<◌, ◌&&◌, length, false, true, is_ok, IfOk};
+ghost use Rattle.std.specs.Prelude.{◌≡◌, ◌<◌, ◌≤◌, ◌-◌, ◌&&◌, length, false, true, is_ok};
+ghost use Rattle.std.specs.Prelude.{Ok, Err, IfOk};
 ghost use Rattle.wires.specs.Wire.{Fits};
 ghost use Rattle.edge_logic.specs.Order.{InOrder};
-ghost use Rattle.edge_system.specs.Stage.{is_on};
+ghost use Rattle.edge_logic.specs.declared.fault.Fault.TheVariants as faults;
+ghost use Rattle.edge_waits.specs.Talk.{link_end_of};
+ghost use Rattle.edge_links.specs.Contact.{PutOffBehind};
+ghost use Rattle.edge_system.specs.Stage.{is_asked, is_on};
+ghost use Rattle.edge_system.specs.Tries.{MayTry, TriesBehind};
 
 use edge_links::{Contact, Link, Parting, System, Teller};
 use edge_logic::{
@@ -49,7 +54,10 @@ pub struct VenueConnector<'a, R: System, W: Write + Drop> {
 ///
 /// # Errors
 /// The system's error, and [`Fault::NoAnswer`] after 5 s.
-fn is_answered(stream: &TcpStream, since: u64, now: u64) -> Result<bool, Fault> {
+fn is_answered(stream: &TcpStream, since: u64, now: u64) -> Result<bool, Fault>
+    ensures patience { result ≡ Ok false → now - since < ANSWER }
+    ensures late { result ≡ Err faults.NoAnswer → ANSWER ≤ now - since }
+{
     if let Some(error) = stream.take_error()? {
         return Err(Fault::System(error));
     }
@@ -97,7 +105,10 @@ impl<'a, R: System, W: Write + Drop> VenueConnector<'a, R, W> {
 
     // The connection has ended so, in order by the venue or not.
     fn end(&mut self, parting: Parting<'_>, was_closed: bool)
-        ensures { self.new.stage ≡ self.old.stage }
+        ensures stage { self.new.stage ≡ self.old.stage }
+        ensures put_off { PutOffBehind self.old.contact self.new.contact was_closed }
+        ensures tries { TriesBehind self.old.back_off self.new.back_off
+            (link_end_of self.old.contact.talk was_closed) }
     {
         let now = ticks(self.rt);
         self.back_off.end(now, self.contact.link_end(was_closed));
@@ -138,7 +149,10 @@ impl<'a, R: System, W: Write + Drop> VenueConnector<'a, R, W> {
 
     // Tries the venue, where that is due.
     fn ask(&mut self, buf: &[u8]) -> Result<Arrival, Fault>
-        requires { is_on self.old.stage ≡ false }
+        requires off { is_on self.old.stage ≡ false }
+        requires unasked { is_asked self.old.stage ≡ false }
+        ensures due { is_asked self.new.stage ≡ true →
+            MayTry self.old.back_off self.old.contact }
         ensures fits { IfOk result (λ arrived. Fits arrived buf.now) }
         ensures order { InOrder false (is_on self.new.stage) result buf.now }
     {
@@ -231,7 +245,9 @@ impl<'a, R: System, W: Write + Drop> VenueConnector<'a, R, W> {
     // What came on the connection, which is kept but at its end.
     fn hear(&mut self, mut link: Link, buf: &mut [u8]) -> Result<Arrival, Fault>
         requires stage { is_on self.old.stage ≡ false }
+        requires unasked { is_asked self.old.stage ≡ false }
         requires room { 0 < length buf.old }
+        ensures unasked { is_asked self.new.stage ≡ false }
         ensures fits { IfOk result (λ arrived. Fits arrived buf.new) }
         ensures order { InOrder true (is_on self.new.stage) result buf.new }
     {
@@ -262,11 +278,17 @@ impl<'a, R: System, W: Write + Drop> Peer for VenueConnector<'a, R, W> {
     ghost within = { λ venue. is_on venue.stage };
 
     #[tactic(auto, using(edge_links::proofs::Come::in_order_from))]
-    fn arrive(&mut self, buf: &mut [u8]) -> Result<Arrival, Fault> {
+    fn arrive(&mut self, buf: &mut [u8]) -> Result<Arrival, Fault>
+        requires room { 0 < length buf.old }
+        ensures fits { IfOk result (λ arrived. Fits arrived buf.new) }
+        ensures order { InOrder (is_on self.old.stage) (is_on self.new.stage) result buf.new }
+        ensures due { is_asked self.new.stage ≡ true → is_asked self.old.stage ≡ false →
+            MayTry self.old.back_off self.old.contact }
+    {
         if self.shared.is_ending() {
             return Ok(Arrival::Nothing);
         }
-        self.is_gone();
+        self.contact.is_gone();
         match mem::replace(&mut self.stage, Stage::Off) {
             Stage::Off => self.ask(buf),
             Stage::Asked(stream, since) => self.wait(stream, since, buf),
@@ -295,7 +317,14 @@ impl<'a, R: System, W: Write + Drop> Peer for VenueConnector<'a, R, W> {
         }
     }
 
-    fn hang_up(&mut self) {
+    fn hang_up(&mut self)
+        ensures within { is_on self.new.stage ≡ false }
+        ensures put_off { is_on self.old.stage ≡ true →
+            PutOffBehind self.old.contact self.new.contact false }
+        ensures tries { is_on self.old.stage ≡ true →
+            TriesBehind self.old.back_off self.new.back_off
+            (link_end_of self.old.contact.talk false) }
+    {
         match mem::replace(&mut self.stage, Stage::Off) {
             Stage::On(link) => {
                 self.contact.hang_up(link);

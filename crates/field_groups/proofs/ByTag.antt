@@ -1,5 +1,5 @@
 -- The first field of a tag, where those in front of it were passed.
-use Rattle.std.proofs.Common.{◌≡◌, ◌==◌, ℕ, ◌+◌, ◌-◌, ◌≤◌, ◌<◌, true, false, List, [], ◌∷◌, ◌++◌}
+use Rattle.std.proofs.Common.{◌≡◌, ◌==◌, ℕ, ◌+◌, ◌-◌, ◌<◌, true, false, List, [], ◌∷◌, ◌++◌}
 use Rattle.std.proofs.Common.{length, Option, Some}
 use Rattle.std.proofs.Common.{None, refl, sym, ap, subst, ◌∙◌, arith, append_assoc, append-nil}
 use Rattle.std.proofs.Common.{length-append}
@@ -14,7 +14,7 @@ use Rattle.field_groups.specs.Field.{Field, IsField, AreFields, body_of, field_b
 use Rattle.field_groups.specs.Fields.{NoField, SplitsInto, Stops, max_fields, value_of}
 use Rattle.field_groups.proofs.Determined.{determined}
 use Rattle.field_groups.proofs.Taking.{Taken, last_pushed, one_more as one_field}
-use Rattle.field_groups.proofs.Whole.{Way, moved, way}
+use Rattle.field_groups.proofs.Whole.{moved, way}
 
 -- these were taken from the front of a body, the last of them is this one, and none has this tag
 pub record Passed (tag : ℕ) (body : List ℕ) (before : Option Field) (count : ℕ) (left : List ℕ)

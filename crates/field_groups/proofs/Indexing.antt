@@ -3,7 +3,7 @@ use Rattle.std.proofs.Common.{◌≡◌, ◌≢◌, ℕ, zero, suc, ◌+◌, ◌
 use Rattle.std.proofs.Common.{eqb}
 use Rattle.std.proofs.Common.{List, [], ◌∷◌, ◌++◌, length, Option, Some, None, refl, ap, ◌∙◌}
 use Rattle.std.proofs.Common.{arith, get_or, replicate, le_of_lt, sym}
-use Rattle.std.specs.Prelude.{position, nat_lt, not, ◌==◌}
+use Rattle.std.specs.Prelude.{position, nat_lt, not, ◌==◌, IfSome}
 use Rattle.std.specs.List.{position_or_len}
 use Rattle.std.specs.Borrow.{Bor}
 use Rattle.std.proofs.lemmas.Bool.Decides.{nat_tests}
@@ -13,7 +13,7 @@ use Rattle.std.proofs.lemmas.List.{get_or-set_same, get_or-set_other, length_pus
 use Rattle.std.proofs.lemmas.List.{get_or-replicate, length-replicate, length-set}
 use Rattle.std.proofs.lemmas.List.Sums.{prefix_len-le-length, position_or_len_is}
 use Rattle.std.proofs.lemmas.List.Sums.{fails_before_first, passes_at_first}
-use Rattle.field_groups.specs.Index.{IsIndexed, counted_place, slot_of, with_field}
+use Rattle.field_groups.specs.Index.{IsIndexed, counted_place, slot_of, with_place}
 
 abbrev pub Parts : Type 0
 Parts = List (ℕ × Bor (List ℕ))
@@ -118,11 +118,11 @@ passed_by parts first part indexed few later = record {
     at slot same e (suc n) z was = rw was refl
 
 -- one more field, at its place
-pub pushed_indexed : (parts : Parts) (first : List ℕ) (part : ℕ × Bor (List ℕ)) (place : ℕ)
-    → IsIndexed parts first → place ≡ length parts → place < 256
-    → IsIndexed (parts ++ part ∷ []) (with_field first part.0 place)
-pushed_indexed parts first part place indexed last few =
-    rw last (by (eqb (get_or first (slot_of part.0) 0) 0) refl)
+pub pushed_indexed : (parts : Parts) (first : List ℕ) (part : ℕ × Bor (List ℕ)) (slot place : ℕ)
+    → slot ≡ slot_of part.0 → IsIndexed parts first → place ≡ length parts → place < 256
+    → IsIndexed (parts ++ part ∷ []) (with_place first slot place)
+pushed_indexed parts first part slot place its indexed last few =
+    rw (its, last) (by (eqb (get_or first (slot_of part.0) 0) 0) refl)
   where
     room : length parts < 256
     room = rw (← last) few
@@ -146,6 +146,11 @@ is_within p xs place e = by (nat_lt (position_or_len p xs) (length xs)) refl e
     by true t s = let same : place ≡ position_or_len p xs = cc in
         (same, rw same (grind (arith, nat_tests)))
     by false t s = absurd cc
+
+pub found_within : {X : Type 0} (p : X → Bool) (xs : List X) (o : Option ℕ)
+    → o ≡ position p xs → IfSome o (λ place. place < length xs)
+found_within p xs None e = tt
+found_within p xs (Some place) e = (is_within p xs place (sym e)).1
 
 module _ {X : Type 0} (p q : X → Bool) (under : (x : X) → p x ≡ false → q x ≡ false) where
   -- the first that passes a wider test is the first that passes a narrower one, where it does
@@ -195,7 +200,7 @@ own_slot other tag low e = by (nat_lt other 448) refl (nat_lt tag 448) refl e
     by one o false t e = absurd (grind (arith, nat_tests))
 
 -- which is the tag
-own_is : (tag : ℕ) → tag < 448 → tag ≡ slot_of tag
+pub own_is : (tag : ℕ) → tag < 448 → tag ≡ slot_of tag
 own_is tag low = by (nat_lt tag 448) refl
   where
     by : (own : Bool) → nat_lt tag 448 ≡ own → tag ≡ cond own tag (448 + tag % 64)

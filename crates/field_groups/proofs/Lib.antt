@@ -1,4 +1,5 @@
 pub mod Places
+pub mod Marks
 pub mod DataTags
 pub mod Digits
 pub mod Reading

@@ -4,6 +4,7 @@ use Rattle.std.proofs.Common.{append_assoc, sym}
 use Rattle.std.specs.Prelude.{◌/◌, ◌%◌}
 use Rattle.std.specs.Fmt.{decimal}
 use Rattle.std.proofs.lemmas.Fmt.{decimal_digit, decimal_step}
+use Rattle.field_groups.specs.Field.{field_bytes}
 
 two_digits : (n : ℕ) → 10 ≤ n → n < 100 → (48 + n / 10) ∷ (48 + n % 10) ∷ [] ≡ decimal n
 two_digits n two most =
@@ -38,3 +39,9 @@ three_pushed old n three most =
     let ones = (48 + n % 10) ∷ [] in
     append_assoc (old ++ front) tens ones ∙ append_assoc old front (tens ++ ones)
     ∙ ap (λ (bytes : List ℕ). old ++ bytes) (three_digits n three most)
+
+-- the field of a number of one digit
+pub one_digit : (old : List ℕ) (tag n : ℕ) → n < 10
+    → old ++ field_bytes (tag, (48 + n) ∷ []) ≡ old ++ field_bytes (tag, decimal n)
+one_digit old tag n one =
+    ap (λ (bytes : List ℕ). old ++ field_bytes (tag, bytes)) (sym (decimal_digit n one))

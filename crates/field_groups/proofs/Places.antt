@@ -89,3 +89,8 @@ pub last_seen : {X Y : Type 0} (view : X → Y) (xs : List X)
 last_seen view [] = refl
 last_seen view (x ∷ xs) =
     let one : length (x ∷ xs) - 1 ≡ length xs = omega arith in rw one (last_is view None x xs)
+
+-- no elements are seen of none alone
+pub none_mapped : {X Y : Type 0} (view : X → Y) (xs : List X) → map view xs ≡ [] → xs ≡ []
+none_mapped view [] e = refl
+none_mapped view (x ∷ xs) e = absurd cc

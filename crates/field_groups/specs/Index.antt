@@ -1,8 +1,10 @@
--- Inside: where the first field of each tag stands, kept beside the fields.
+-- Inside: where the first field of each tag stands, kept beside the fields; and which stands last.
 use Rattle.std.specs.Prelude.{◌≡◌, ◌==◌, ◌<◌, ◌≤◌, ◌+◌, ◌%◌, ℕ, zero, suc, List}
-use Rattle.std.specs.Prelude.{Option, Some, None, length, nat_lt, position, slice_index, slice_set}
-use Rattle.std.specs.Prelude.{if◌then◌else◌}
+use Rattle.std.specs.Prelude.{Option, Some, None, length, map, nat_lt, position, slice_index}
+use Rattle.std.specs.Prelude.{slice_set, if◌then◌else◌}
 use Rattle.std.specs.Borrow.{Bor}
+use Rattle.std.specs.List.{last_or}
+use Rattle.field_groups.specs.Field.{Field}
 
 -- a place that is counted from 1, or 0 for none
 abbrev pub counted_place : ℕ → Option ℕ
@@ -23,8 +25,11 @@ pub record IsIndexed (parts : List (ℕ × Bor (List ℕ))) (first : List ℕ) :
   pub place : (slot : ℕ) → slot < slots
       → position (λ part. slot_of part.0 == slot) parts ≡ counted_place (slice_index first slot)
 
--- the index with one more field at a place, counted from 0
-abbrev pub with_field : List ℕ → ℕ → ℕ → List ℕ
-with_field first tag place =
-    if slice_index first (slot_of tag) == 0
-    then slice_set first (slot_of tag) (suc place) else first
+-- the index with the place of one more field, counted from 0, whose tag has this slot
+abbrev pub with_place : List ℕ → ℕ → ℕ → List ℕ
+with_place first slot place =
+    if slice_index first slot == 0 then slice_set first slot (suc place) else first
+
+-- the tag and the value of the field that stands last
+abbrev pub last_field : List (ℕ × Bor (List ℕ)) → Option Field
+last_field parts = last_or None (map (λ p. (p.0, p.1.now)) parts)

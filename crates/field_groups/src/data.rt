@@ -4,16 +4,20 @@ ghost use Rattle.std.specs.Prelude.{◌≡◌};
 ghost use Rattle.field_groups.specs.Data.{is_data_pair};
 
 /// The least tag of a field of raw bytes: Signature.
-const LEAST: u32 = 89;
+pub(crate) const LEAST_DATA: u32 = 89;
 
 /// Whether the first tag is that of the length field of the second, a field of raw bytes.
 #[inline(always)]
-#[tactic(auto, using(crate::proofs::DataTags::below), unfolding(crate::specs::Data::is_data_pair))]
+#[tactic(auto, using(crate::proofs::DataTags::single), unfolding(crate::specs::Data::is_data_pair))]
 #[rattlefmt::skip]
 pub(crate) fn is_data_pair(len: u32, tag: u32) -> bool
     ensures { result ≡ is_data_pair len tag }
 {
-    if tag < LEAST {
+    if tag < LEAST_DATA {
+        return false;
+    }
+    // In each pair but that of Signature the tags are neighbours.
+    if tag != LEAST_DATA && tag - 1 != len {
         return false;
     }
     match len {

@@ -2,7 +2,7 @@
 
 ghost use Rattle.std.specs.Prelude.{◌≡◌, ◌==◌, ◌<◌, length, map, position};
 ghost use Rattle.std.specs.Slice.Iter.{iter_rest};
-ghost use Rattle.field_groups.specs.Index.{counted_place, slot_of, slots, with_field};
+ghost use Rattle.field_groups.specs.Index.{counted_place, slot_of, slots, with_place};
 
 use crate::fault::SplitFault;
 use std::alloc::{AllocError, Global};
@@ -17,6 +17,9 @@ const OWN: u32 = 448;
 
 /// The slots that all other tags share. Few of one message have the same.
 const SHARED: u32 = 64;
+
+/// The fields that the list first has room for: most messages have no more.
+const FIRST_ROOM: usize = 32;
 
 /// The slots of the index of fields.
 const SLOTS: usize = 512;
@@ -46,10 +49,11 @@ impl<'a> Model for Fields<'a> {
 
 impl<'a> Fields<'a> {
     ghost use Rattle.std.specs.Prelude.{◌≡◌, ◌==◌, ◌<◌, ◌≤◌, ◌++◌, ◌∷◌, [], None, length};
-    ghost use Rattle.std.specs.Prelude.{map, slice_get, IfSome};
+    ghost use Rattle.std.specs.Prelude.{map, slice_get, IfSome, Some};
     ghost use Rattle.std.specs.Prelude.{IfOk, OnOk, OnErr, position};
     ghost use Rattle.std.specs.Option.{option_map};
     ghost use Rattle.std.specs.Slice.Iter.{iter_rest};
+    ghost use Rattle.field_groups.specs.Index.{slot_of};
 
     /// No fields, and no memory for any.
     #[inline(always)]
@@ -62,22 +66,53 @@ impl<'a> Fields<'a> {
         }
     }
 
-    /// Makes room for so many fields.
-    pub(crate) fn reserve(&mut self, count: usize) -> Result<(), AllocError>
-        ensures { self.new ≡ self.old }
+    /// Takes the memory for the first fields.
+    #[inline(always)]
+    pub(crate) fn make_room(&mut self) -> Result<(), AllocError>
+        requires { self.old ≡ [] }
+        ensures { self.new ≡ [] }
     {
-        self.parts.reserve(count)
+        self.parts = Vec::with_capacity(*self.parts.allocator(), FIRST_ROOM)?;
+        Ok(())
     }
 
     /// One more field at the end.
+    #[inline(always)]
     pub(crate) fn push(&mut self, tag: u32, value: &'a [u8]) -> Result<(), AllocError>
         requires { length self.old < 256 }
         ensures ok { OnOk result (self.new ≡ self.old ++ (tag, value.now) ∷ []) }
         ensures err { OnErr result (self.new ≡ self.old) }
     {
+        if tag < OWN {
+            self.push_in(tag as usize, tag, value)
+        } else {
+            self.push_shared(tag, value)
+        }
+    }
+
+    // The same of a tag that shares its slot, as few of a message do: what looks for it is kept out
+    // of the loop over the fields.
+    #[inline(never)]
+    fn push_shared(&mut self, tag: u32, value: &'a [u8]) -> Result<(), AllocError>
+        requires { length self.old < 256 }
+        ensures ok { OnOk result (self.new ≡ self.old ++ (tag, value.now) ∷ []) }
+        ensures err { OnErr result (self.new ≡ self.old) }
+    {
+        self.push_in(slot_of(tag), tag, value)
+    }
+
+    // One more field at the end, whose tag has this slot.
+    #[inline(always)]
+    fn push_in(&mut self, slot: usize, tag: u32, value: &'a [u8]) -> Result<(), AllocError>
+        requires slot { slot ≡ slot_of tag }
+        requires within { slot < SLOTS }
+        requires few { length self.old < 256 }
+        ensures ok { OnOk result (self.new ≡ self.old ++ (tag, value.now) ∷ []) }
+        ensures err { OnErr result (self.new ≡ self.old) }
+    {
         let place = self.len();
         self.parts.push((tag, value))?;
-        index_field(&mut self.first, tag, place);
+        index_place(&mut self.first, slot, place);
         Ok(())
     }
 
@@ -106,10 +141,20 @@ impl<'a> Fields<'a> {
         self.parts.get(place).copied()
     }
 
+    /// The tag and the value of the field at a place, where one stands.
+    #[inline(always)]
+    pub fn field(&self, place: usize) -> Field<'a>
+        requires { place < length self.now }
+        ensures { Some (result.0, result.1.now) ≡ slice_get self.now place }
+    {
+        self.parts[place]
+    }
+
     /// The place of the first field with this tag; `None` where no field has it.
     #[inline(always)]
     pub fn find(&self, tag: u32) -> Option<usize>
         ensures place { result ≡ position (λ field. field.0 == tag) self.now }
+        ensures within { IfSome result (λ place. place < length self.now) }
         ensures few { IfSome result (λ place. place < 256) }
     {
         if tag < OWN {
@@ -174,14 +219,14 @@ fn slot_of(tag: u32) -> usize
     }
 }
 
-/// Indexes a field at a place, if it is the first whose tag has its slot.
+/// Indexes the place of a field whose tag has this slot, if it is the first of them.
 #[inline(always)]
-fn index_field(first: &mut [u16; SLOTS], tag: u32, place: usize)
+fn index_place(first: &mut [u16; SLOTS], slot: usize, place: usize)
     requires whole { length first.old ≡ slots }
+    requires slot { slot < SLOTS }
     requires place { place < 256 }
-    ensures { first.new ≡ with_field first.old tag place }
+    ensures { first.new ≡ with_place first.old slot place }
 {
-    let slot = slot_of(tag);
     if first[slot] == 0 {
         first[slot] = place as u16 + 1;
     }

@@ -18,7 +18,7 @@ pub fn value_of(body: &[u8], tag: u32) -> Option<&[u8]>
     let mut before = None;
     let mut rest = body;
     while count < MAX_FIELDS && !rest.is_empty() {
-        match field_at(body.len() - rest.len(), before, rest) {
+        match field_at(body.len() - rest.len(), before.as_slice(), rest) {
             Err(_) => return None,
             Ok((found, value, after)) => {
                 if found == tag {

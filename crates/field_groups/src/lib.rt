@@ -21,4 +21,6 @@ pub use finding::value_of;
 pub use group::{Group, GroupFault, MAX_LINES, Shape, read_group};
 pub use head_values::{is_type, number_in};
 pub use splitting::{split, split_into};
-pub use writing::{AROUND, push_tag, put_byte, put_field, put_known, put_number, put_tag};
+pub use writing::{
+    AROUND, has_room, push_tag, put_byte, put_field, put_known, put_number, put_tag,
+};

@@ -1,37 +1,35 @@
 //! The fields of a body, from the front.
 
-ghost use Rattle.std.specs.Prelude.{◌≡◌, ◌-◌, ◌<◌, ◌≤◌, ◌++◌, ◌∷◌, [], ◌==◌, ◌&&◌, false, true};
-ghost use Rattle.std.specs.Prelude.{Option, None, Some, length, take, slice_index, IsTrue};
-ghost use Rattle.std.specs.Prelude.{IfOk, IfErr, IfNone, IfSome, OnOk};
+ghost use Rattle.std.specs.Prelude.{◌≡◌, ◌-◌, ◌+◌, ◌<◌, ◌≤◌, ◌++◌, ◌∷◌, [], ◌==◌, ◌&&◌};
+ghost use Rattle.std.specs.Prelude.{false, true, Option, None, Some, length, take, slice_index};
+ghost use Rattle.std.specs.Prelude.{IsTrue, IfOk, IfErr, IfNone, IfSome, OnOk};
 ghost use Rattle.std.specs.List.{list_all, list_any};
-ghost use Rattle.std.specs.Option.{option_map};
 ghost use Rattle.std.specs.Char.{is_ascii_digit};
 ghost use Rattle.std.specs.Fmt.{decimal};
 ghost use Rattle.std.specs.Str.Parse.{digits_value};
 ghost use Rattle.memchr.specs.Find.{IsFirstByte, Nowhere, Passes};
-ghost use Rattle.field_groups.specs.Field.{Field, IsField, field_bytes, is_soh, says};
+ghost use Rattle.field_groups.specs.Field.{Field, IsField, field_bytes, is_data, is_soh};
+ghost use Rattle.field_groups.specs.Field.{said_length, says};
 ghost use Rattle.field_groups.specs.HeadValues.{number_in};
+ghost use Rattle.field_groups.specs.Index.{last_field};
 ghost use Rattle.field_groups.specs.Fields.{NoField, SplitsInto, after_tag, front_tag, has_tag};
 ghost use Rattle.field_groups.specs.Fields.{is_tag_good, digit_count, has_soh, has_soh_after};
 
-use crate::data::is_data_pair;
+use crate::data::{LEAST_DATA, is_data_pair};
 use crate::fault::SplitFault;
-use crate::fields::{SOH, Split};
+use crate::fields::{Field, SOH, Split};
 use crate::head_values::number_in;
-use memchr::memchr;
 use std::alloc::{AllocError, Global};
+use std::simd::prelude::*;
 
 /// The most fields of one body.
 pub(crate) const MAX_FIELDS: usize = 256;
 
-/// The fields that the first growth of the list has room for: most messages have no more.
-const FIRST_ROOM: usize = 32;
-
 /// The most digits of a tag.
 const MAX_DIGITS: usize = 9;
 
-/// How many bytes are searched at once for the end of a value.
-const CHUNK: usize = 32;
+/// How many bytes are compared at once for the end of a value: most values have fewer.
+const CHUNK: usize = 16;
 
 /// How many digits stand at the front.
 fn digit_count(bytes: &[u8]) -> usize
@@ -52,9 +50,8 @@ fn digit_of(byte: u8) -> Option<u32>
     ensures digit { IfSome result (λ digit. digit ≡ byte - 48) }
     ensures small { IfSome result (λ digit. digit ≤ 9) }
 {
-    let number = byte.wrapping_sub(b'0');
-    if number <= 9 {
-        Some(u32::from(number))
+    if byte.is_ascii_digit() {
+        Some(byte as u32 - 48)
     } else {
         None
     }
@@ -74,6 +71,21 @@ fn digit_at(bytes: &[u8], place: usize) -> Option<u32>
     }
 }
 
+/// The number of a digit that is not 0; `None` of any other byte.
+#[inline(always)]
+fn lead_of(byte: u8) -> Option<u32>
+    ensures some { IfSome result (λ digit. is_ascii_digit byte ≡ true) }
+    ensures digit { IfSome result (λ digit. digit ≡ byte - 48) }
+    ensures small { IfSome result (λ digit. digit ≤ 9) }
+    ensures lead { IfSome result (λ digit. 49 ≤ byte) }
+{
+    if byte < b'1' || byte > b'9' {
+        None
+    } else {
+        Some(byte as u32 - 48)
+    }
+}
+
 /// The digit at the front, where one stands there that is not 0.
 #[inline(always)]
 fn lead_digit(bytes: &[u8]) -> Option<u32>
@@ -82,9 +94,9 @@ fn lead_digit(bytes: &[u8]) -> Option<u32>
     ensures small { IfSome result (λ digit. digit ≤ 9) }
     ensures lead { IfSome result (λ digit. 49 ≤ slice_index bytes.now 0) }
 {
-    match digit_at(bytes, 0) {
+    match bytes.get(0) {
+        Some(byte) => lead_of(*byte),
         None => None,
-        Some(digit) => if digit == 0 { None } else { Some(digit) },
     }
 }
 
@@ -272,20 +284,66 @@ fn soh_from(bytes: &[u8], from: usize) -> Option<usize>
     }
 }
 
-/// The place of the first SOH; `None` where there is none. A search of a fixed length takes few
-/// steps, and most values are shorter.
+/// The place of the first SOH among bytes that are compared at once; `None` where there is none.
 #[inline(always)]
-fn first_soh(bytes: &[u8]) -> Option<usize>
+fn chunk_soh(bytes: &[u8]) -> Option<usize>
+    requires { length bytes.now ≡ CHUNK }
     ensures { IsFirstByte is_soh bytes.now result }
 {
-    let mut from = 0;
+    let marks = u8x16::from_slice(bytes)
+        .simd_eq(u8x16::splat(SOH))
+        .to_bitmask();
+    if marks == 0 {
+        None
+    } else {
+        Some(marks.trailing_zeros() as usize)
+    }
+}
+
+/// The place of the first SOH, which is not before this place, where it is among the sixteen bytes
+/// from there on.
+#[inline(always)]
+fn soh_in_chunk(bytes: &[u8], from: usize) -> Option<usize>
+    requires within { from + CHUNK ≤ length bytes.now }
+    requires before { Nowhere (Passes is_soh bytes.now) 0 from }
+    ensures some { IfSome result (λ end. IsFirstByte is_soh bytes.now (Some end)) }
+    ensures none { IfNone result (Nowhere (Passes is_soh bytes.now) 0 (from + CHUNK)) }
+{
+    match chunk_soh(&bytes[from..from + CHUNK]) {
+        None => None,
+        Some(end) => Some(from + end),
+    }
+}
+
+/// The place of the first SOH, which is not among the first sixteen bytes; `None` where there is
+/// none.
+fn later_soh(bytes: &[u8]) -> Option<usize>
+    requires within { CHUNK ≤ length bytes.now }
+    requires before { Nowhere (Passes is_soh bytes.now) 0 CHUNK }
+    ensures { IsFirstByte is_soh bytes.now result }
+{
+    let mut from = CHUNK;
     while bytes.len() - from >= CHUNK {
-        if let Some(end) = memchr(SOH, &bytes[from..from + CHUNK]) {
-            return Some(from + end);
+        if let Some(end) = soh_in_chunk(bytes, from) {
+            return Some(end);
         }
         from += CHUNK;
     }
     soh_from(bytes, from)
+}
+
+/// The place of the first SOH; `None` where there is none. Most values end in the first chunk.
+#[inline(always)]
+fn first_soh(bytes: &[u8]) -> Option<usize>
+    ensures { IsFirstByte is_soh bytes.now result }
+{
+    if bytes.len() < CHUNK {
+        return short_soh(bytes);
+    }
+    match soh_in_chunk(bytes, 0) {
+        Some(end) => Some(end),
+        None => later_soh(bytes),
+    }
 }
 
 /// The value before the first SOH, and what is left after that SOH; `None` where there is no SOH.
@@ -315,29 +373,47 @@ fn data_at<'a>(said: &[u8], bytes: &'a [u8]) -> Option<(&'a [u8], &'a [u8])>
     Some((&bytes[..end], &bytes[end + 1..]))
 }
 
+/// What the last of the fields before says of the length of a field of this tag; `None` where that
+/// is no raw data. The field before is looked at for few tags.
+#[inline(always)]
+fn said_of<'f>(before: &'f [Field<'_>], tag: u32) -> Option<&'f [u8]>
+    ensures data { IfSome result (λ said. is_data (last_field before.now) tag ≡ true) }
+    ensures len { IfSome result (λ said.
+        said_length (last_field before.now) ≡ number_in said.now) }
+    ensures none { IfNone result (is_data (last_field before.now) tag ≡ false) }
+{
+    if tag < LEAST_DATA {
+        return None;
+    }
+    match before.last() {
+        Some(field) if is_data_pair(field.0, tag) => Some(field.1),
+        _ => None,
+    }
+}
+
 /// The tag and the value of the field at the front, and what is left after it. The field begins at
-/// this place of the body, directly behind the field before.
+/// this place of the body, directly behind the last of the fields before.
 #[inline(always)]
 #[tactic(auto, unfolding(crate::specs::Field::field_bytes))]
 pub(crate) fn field_at<'a>(
     place: usize,
-    before: Option<(u32, &[u8])>,
+    before: &[Field<'_>],
     bytes: &'a [u8],
 ) -> Result<(u32, &'a [u8], &'a [u8]), SplitFault>
     ensures good { IfOk result (λ field.
-        IsField (option_map (λ f. (f.0, f.1.now)) before.entry) (field.0, field.1.now)) }
+        IsField (last_field before.now) (field.0, field.1.now)) }
     ensures written { IfOk result (λ field.
         bytes.now ≡ field_bytes (field.0, field.1.now) ++ field.2.now) }
     ensures fault { IfErr result
-        (NoField place (option_map (λ f. (f.0, f.1.now)) before.entry) bytes.now) }
+        (NoField place (last_field before.now) bytes.now) }
 {
     let (tag, rest) = tag_at(place, bytes)?;
-    match before {
-        Some((len, said)) if is_data_pair(len, tag) => match data_at(said, rest) {
+    match said_of(before, tag) {
+        Some(said) => match data_at(said, rest) {
             None => Err(SplitFault::DataLength { tag }),
             Some((value, after)) => Ok((tag, value, after)),
         },
-        _ => match value_at(rest) {
+        None => match value_at(rest) {
             None => Err(SplitFault::NoEnd { at: place }),
             Some((value, after)) => Ok((tag, value, after)),
         },
@@ -371,18 +447,16 @@ pub fn split_into<'a>(body: &'a [u8], split: &mut Split<'a>) -> Result<(), Alloc
     requires { split.old.fields ≡ [] }
     ensures { OnOk result (SplitsInto body.now split.new.fields split.new.fault) }
 {
-    split.fields.reserve(FIRST_ROOM)?;
-    let mut before = None;
+    split.fields.make_room()?;
     let mut rest = body;
     while !rest.is_empty() {
         if split.fields.len() == MAX_FIELDS {
             split.fault = Some(SplitFault::TooMany);
             return Ok(());
         }
-        match field_at(body.len() - rest.len(), before, rest) {
+        match field_at(body.len() - rest.len(), split.fields.as_slice(), rest) {
             Ok((tag, value, after)) => {
                 split.fields.push(tag, value)?;
-                before = Some((tag, value));
                 rest = after;
             }
             Err(fault) => {

@@ -1,6 +1,6 @@
 //! Fields as they are written.
 
-ghost use Rattle.std.specs.Prelude.{◌≡◌, ◌+◌, ◌<◌, ◌≤◌, ◌++◌, ◌∷◌, [], OnOk, length};
+ghost use Rattle.std.specs.Prelude.{◌≡◌, ◌+◌, ◌<◌, ◌≤◌, ◌++◌, ◌∷◌, [], IsTrue, OnOk, length};
 ghost use Rattle.std.specs.Prelude.{vec_capacity, vec_len};
 ghost use Rattle.std.specs.Fmt.{decimal};
 ghost use Rattle.std.specs.Io.{StartsWith};
@@ -119,8 +119,106 @@ pub fn put_tag(out: &mut Vec<u8>, tag: u32) -> Result<(), AllocError>
     Ok(())
 }
 
+/// Whether there is room for so many bytes more.
+#[inline(always)]
+pub fn has_room(out: &Vec<u8>, count: usize) -> bool
+    ensures { IsTrue result → vec_len out.now + count ≤ vec_capacity out.now }
+{
+    count <= out.capacity() - out.len()
+}
+
+/// Appends a long value and SOH, where there is room for both.
+#[inline(never)]
+fn push_copied(out: &mut Vec<u8>, value: &[u8])
+    requires { vec_len out.old + length value.now < vec_capacity out.old }
+    ensures { out.new.items ≡ out.old.items ++ (value.now ++ SOH ∷ []) }
+{
+    out.extend_from_slice(value).unwrap();
+    out.push_reserved(SOH);
+}
+
+/// Appends two bytes.
+#[inline(always)]
+fn push_pair(out: &mut Vec<u8>, first: u8, second: u8)
+    requires { vec_len out.old + 2 ≤ vec_capacity out.old }
+    ensures items { out.new.items ≡ out.old.items ++ first ∷ second ∷ [] }
+    ensures len { vec_len out.new ≡ vec_len out.old + 2 }
+    ensures capacity { vec_capacity out.new ≡ vec_capacity out.old }
+{
+    out.push_reserved(first);
+    out.push_reserved(second);
+}
+
+/// Appends four bytes.
+#[inline(always)]
+fn push_four(out: &mut Vec<u8>, first: u8, second: u8, third: u8, fourth: u8)
+    requires { vec_len out.old + 4 ≤ vec_capacity out.old }
+    ensures items { out.new.items ≡ out.old.items ++ first ∷ second ∷ third ∷ fourth ∷ [] }
+    ensures len { vec_len out.new ≡ vec_len out.old + 4 }
+    ensures capacity { vec_capacity out.new ≡ vec_capacity out.old }
+{
+    push_pair(out, first, second);
+    push_pair(out, third, fourth);
+}
+
+/// Appends a value and SOH, where there is room for both: a short one with no call that copies.
+#[inline(never)]
+fn push_value(out: &mut Vec<u8>, value: &[u8])
+    requires { vec_len out.old + length value.now < vec_capacity out.old }
+    ensures { out.new.items ≡ out.old.items ++ (value.now ++ SOH ∷ []) }
+{
+    match value {
+        [a] => push_pair(out, *a, SOH),
+        [a, b] => {
+            push_pair(out, *a, *b);
+            out.push_reserved(SOH)
+        }
+        [a, b, c] => push_four(out, *a, *b, *c, SOH),
+        [a, b, c, d] => {
+            push_four(out, *a, *b, *c, *d);
+            out.push_reserved(SOH)
+        }
+        [a, b, c, d, e] => {
+            push_four(out, *a, *b, *c, *d);
+            push_pair(out, *e, SOH)
+        }
+        [a, b, c, d, e, f] => {
+            push_four(out, *a, *b, *c, *d);
+            push_pair(out, *e, *f);
+            out.push_reserved(SOH)
+        }
+        [a, b, c, d, e, f, g] => {
+            push_four(out, *a, *b, *c, *d);
+            push_four(out, *e, *f, *g, SOH)
+        }
+        _ => push_copied(out, value),
+    }
+}
+
+/// Appends a field where there is room for it.
+#[inline(always)]
+#[tactic(auto, unfolding(crate::specs::Field::field_bytes))]
+fn push_field(out: &mut Vec<u8>, tag: u32, value: &[u8])
+    requires { vec_len out.old + (AROUND + length value.now) ≤ vec_capacity out.old }
+    ensures { out.new.items ≡ out.old.items ++ field_bytes (tag, value.now) }
+{
+    push_tag(out, tag);
+    push_value(out, value);
+}
+
+/// Appends a field, for which room is made.
+#[inline(never)]
+fn put_grown(out: &mut Vec<u8>, tag: u32, value: &[u8]) -> Result<(), AllocError>
+    ensures done { OnOk result (out.new.items ≡ out.old.items ++ field_bytes (tag, value.now)) }
+    ensures kept { StartsWith out.new.items out.old.items }
+{
+    out.reserve(AROUND + value.len())?;
+    push_field(out, tag, value);
+    Ok(())
+}
+
 /// Appends a field as it is written: its tag in digits, `=`, its value, SOH. (FIX 4.2, "Field
-/// Delimiter".) Many values are codes, which are put without a copy of bytes.
+/// Delimiter".)
 ///
 /// # Errors
 ///
@@ -130,28 +228,26 @@ pub fn put_field(out: &mut Vec<u8>, tag: u32, value: &[u8]) -> Result<(), AllocE
     ensures done { OnOk result (out.new.items ≡ out.old.items ++ field_bytes (tag, value.now)) }
     ensures kept { StartsWith out.new.items out.old.items }
 {
-    match value {
-        [byte] => put_byte(out, tag, *byte),
-        _ => put_known(out, tag, value),
-    }
+    put_known(out, tag, value)
 }
 
-/// Appends a field whose tag the caller knows: its digits are then known as well.
+/// Appends a field whose tag the caller knows: its digits are then known as well. Where there is
+/// room already, and the tag is no longer than most, no call but that for the value is made.
 ///
 /// # Errors
 ///
 /// As [`put_tag`].
 #[inline(always)]
-#[tactic(auto, unfolding(crate::specs::Field::field_bytes))]
 pub fn put_known(out: &mut Vec<u8>, tag: u32, value: &[u8]) -> Result<(), AllocError>
     ensures done { OnOk result (out.new.items ≡ out.old.items ++ field_bytes (tag, value.now)) }
     ensures kept { StartsWith out.new.items out.old.items }
 {
-    out.reserve(AROUND + value.len())?;
-    push_tag(out, tag);
-    out.extend_from_slice(value)?;
-    out.push_reserved(SOH);
-    Ok(())
+    if tag < 1000 && has_room(out, AROUND + value.len()) {
+        push_field(out, tag, value);
+        Ok(())
+    } else {
+        put_grown(out, tag, value)
+    }
 }
 
 /// Appends a field whose value is one byte.
@@ -159,34 +255,36 @@ pub fn put_known(out: &mut Vec<u8>, tag: u32, value: &[u8]) -> Result<(), AllocE
 /// # Errors
 ///
 /// As [`put_tag`].
-#[inline(never)]
+#[inline(always)]
 #[tactic(auto, unfolding(crate::specs::Field::field_bytes))]
 pub fn put_byte(out: &mut Vec<u8>, tag: u32, byte: u8) -> Result<(), AllocError>
     ensures done { OnOk result (out.new.items ≡ out.old.items ++ field_bytes (tag, byte ∷ [])) }
     ensures kept { StartsWith out.new.items out.old.items }
 {
-    out.reserve(AROUND + 1)?;
-    push_tag(out, tag);
-    out.push_reserved(byte);
-    out.push_reserved(SOH);
-    Ok(())
+    if tag < 1000 && has_room(out, AROUND + 1) {
+        push_tag(out, tag);
+        push_pair(out, byte, SOH);
+        Ok(())
+    } else {
+        put_grown(out, tag, &[byte])
+    }
 }
 
-/// Appends a field whose value is a number in digits.
+/// Appends a field whose value is a number in digits. Most have one.
 ///
 /// # Errors
 ///
 /// As [`put_tag`].
-#[inline(never)]
-#[tactic(auto, unfolding(crate::specs::Field::field_bytes))]
+#[inline(always)]
+#[tactic(auto, using(crate::proofs::NumberDigits::one_digit))]
 pub fn put_number(out: &mut Vec<u8>, tag: u32, number: u32) -> Result<(), AllocError>
     ensures done { OnOk result (out.new.items
         ≡ out.old.items ++ field_bytes (tag, decimal number)) }
     ensures kept { StartsWith out.new.items out.old.items }
 {
-    out.reserve(AROUND + DIGITS)?;
-    push_tag(out, tag);
-    push_number(out, number);
-    out.push_reserved(SOH);
-    Ok(())
+    if number < 10 {
+        put_byte(out, tag, b'0' + number as u8)
+    } else {
+        put_grown(out, tag, Buffer::new().format(number).as_bytes())
+    }
 }

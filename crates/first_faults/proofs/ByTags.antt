@@ -2,15 +2,16 @@
 use Rattle.std.proofs.Common.{◌≡◌, ℕ, zero, suc, ◌+◌, ◌<◌, ◌≤◌, Bool, true, false, cond, eqb}
 use Rattle.std.proofs.Common.{List, [], ◌∷◌, ◌++◌, length, get_or, take, map, replicate, Some, None}
 use Rattle.std.proofs.Common.{Option, refl, sym, subst, ap, ◌∙◌, arith}
-use Rattle.std.specs.Prelude.{◌&&◌, ◌||◌, ◌==◌, not, position}
+use Rattle.std.specs.Prelude.{◌&&◌, ◌||◌, ◌==◌, ◌%◌, not, position}
 use Rattle.std.specs.Borrow.{Bor}
 use Rattle.std.specs.List.{AllByRecursion, flat_map, list_all, list_any, slice_get}
 use Rattle.std.proofs.Math.ListN.{set}
 use Rattle.std.proofs.lemmas.Bool.Decides.{nat_tests}
 use Rattle.std.proofs.lemmas.Option.{get_or_from_slice_get}
 use Rattle.std.proofs.lemmas.Grind.{flat_map-append}
-use Rattle.std.proofs.lemmas.List.{append-nil, map-append, take_more}
-use Rattle.std.proofs.lemmas.List.Folds.{list_all-append}
+use Rattle.std.proofs.lemmas.List.{append-nil, get_or-set_same, map-append, take_more}
+use Rattle.std.proofs.lemmas.List.Folds.{list_all-append, list_any-append}
+use Rattle.std.proofs.lemmas.Nat.{mod_below}
 use Rattle.field_groups.specs.Field.{Field}
 use Rattle.message_tables.specs.declared.table.Row.{Row as CodeRow}
 use Rattle.message_tables.specs.declared.table.Item.{Item as CodeItem}
@@ -23,8 +24,8 @@ use Rattle.message_tables.specs.Tables.{Fixed, When, Row, Table, all_rows, has_t
 use Rattle.message_tables.specs.Tables.{is_needed, is_one_of, row_at, tags_in}
 use Rattle.message_tables.specs.FirstFault.{fault_if, first_fault, group_tags_in, group_tags_of}
 use Rattle.message_tables.specs.FirstFault.{is_of_group, marked, missing, once_in}
-use Rattle.message_tables.specs.FirstFault.{without_row}
-use Rattle.message_tables.specs.CodeTables.{item_of, row_of, table_of}
+use Rattle.message_tables.specs.FirstFault.{allowed, mark_of, without_row}
+use Rattle.message_tables.specs.CodeTables.{item_of, need_of, row_of, table_of}
 use Rattle.message_tables.specs.Plain.{IsLoose, IsSaidItem, fits_at, is_good, lacks}
 use Rattle.message_tables.proofs.Mapped.{groups_mapped, once_mapped}
 use Rattle.message_tables.proofs.OnePass.{absent_is_whole, first_is_once, good_mark, is_first}
@@ -36,12 +37,13 @@ use Rattle.row_values.specs.Kinds.{Kind, judge}
 use Rattle.first_faults.specs.declared.indexed.TagRow.{TagRow}
 use Rattle.first_faults.specs.declared.indexed.TagRow.TheVariants.{Absent, Own, Member, Passed}
 use Rattle.first_faults.specs.declared.indexed.Span.{Span}
-use Rattle.first_faults.specs.Indexed.{AreGoodFields, AreNeeded, AreSaid, AreTagRows, IsAlone}
+use Rattle.first_faults.specs.Indexed.{AreGoodFields, AreNeeded, AreSaid, AreTagRows, HaveCome}
+use Rattle.first_faults.specs.Indexed.{IsAlone}
 use Rattle.first_faults.specs.Indexed.{IsApartItem, IsFirstRow, IsGoodField, IsRowOf, IsTagRow}
 use Rattle.first_faults.specs.Indexed.{IsWholeItem, is_said, may_be_needed, needed_of, of_tag}
 use Rattle.first_faults.specs.Indexed.{own, row_in, with_place}
 use Rattle.first_faults.proofs.FirstFaults.{with_none, with_row}
-use Rattle.first_faults.proofs.OnePass.{loose, one_more}
+use Rattle.first_faults.proofs.OnePass.{good_is_allowed, loose, one_more}
 
 -- ---- rows by their tags
 
@@ -312,18 +314,76 @@ absent fields (Lines group ∷ items) h =
 pub own_good : (table : CodeTable CodeKind) (fields : List Field) (place tag : ℕ)
     → (value : List ℕ) (row : CodeRow CodeKind) → Some (tag, value) ≡ slice_get fields place
     → IsFirstRow table tag row → IsAlone (own table) tag
-    → Some place ≡ position (λ (f : Field). f.0 == tag) fields
+    → (is_one_of (once_in (table_of kind_of table)) tag && has_tag tag (take place fields)) ≡ false
     → fits_at judge fields (row_of kind_of row) (Some value) ≡ true
     → IsGoodField (table_of kind_of table) fields place true
-own_good table fields place tag value row at is alone first fit = record {
-  loose = loose (table_of kind_of table) fields place (tag, value) _ at
-      (first_is_once (once_in (table_of kind_of table)) fields tag place first)
+own_good table fields place tag value row at is alone once fit = record {
+  loose = loose (table_of kind_of table) fields place (tag, value) _ at once
       (with_row table fields tag value (row_of (λ (k : CodeKind). k) row) is) (good_mark _ fit);
   alone = λ _.
       ap (λ (f : Field). list_any (is_of_group f.0) (group_tags_in (table_of kind_of table)))
       (get_or_from_slice_get fields place (tag, value) (0, []) (sym at))
       ∙ ap (list_any (is_of_group tag)) (groups_mapped kind_of table) ∙ alone;
 }
+
+and_false : (a : Bool) → (a && false) ≡ false
+and_false true = refl
+and_false false = refl
+
+-- the same of a field whose tag did not come before, and whose value is good beside any need
+pub new_good : (table : CodeTable CodeKind) (fields : List Field) (place tag : ℕ)
+    → (value : List ℕ) (row : CodeRow CodeKind) → Some (tag, value) ≡ slice_get fields place
+    → IsFirstRow table tag row → IsAlone (own table) tag
+    → has_tag tag (take place fields) ≡ false
+    → is_good (mark_of (judge fields (kind_of row.kind) value)) ≡ true
+    → IsGoodField (table_of kind_of table) fields place true
+new_good table fields place tag value row at is alone new good =
+    own_good table fields place tag value row at is alone (rw new (and_false _))
+    (ap (λ (m : Mark). is_good (allowed (need_of row.need) m)) (good_mark _ good)
+    ∙ good_is_allowed (need_of row.need))
+
+-- ---- the tags that came
+
+pub none_came : (come : List Bool) → HaveCome [] come
+none_came come tag there = absurd cc
+
+pub not_come : (fields : List Field) (come : List Bool) (tag : ℕ) (came : Bool)
+    → came ≡ get_or come (tag % 256) false → not came ≡ true → HaveCome fields come
+    → has_tag tag fields ≡ false
+not_come fields come tag came is new so_far = by (has_tag tag fields) refl
+  where
+    by : (b : Bool) → has_tag tag fields ≡ b → b ≡ false
+    by false e = refl
+    by true e = absurd (cc (so_far tag e, is, is_off came new))
+
+-- what is marked stays marked
+set_keeps : (marks : List Bool) (i j : ℕ) → get_or marks j false ≡ true
+    → get_or (set marks i true) j false ≡ true
+set_keeps [] i j h = h
+set_keeps (one ∷ marks) zero zero h = refl
+set_keeps (one ∷ marks) zero (suc j) h = h
+set_keeps (one ∷ marks) (suc i) zero h = h
+set_keeps (one ∷ marks) (suc i) (suc j) h = set_keeps marks i j h
+
+pub one_came : (fields : List Field) (come : List Bool) (tag : ℕ) (value : List ℕ)
+    → length come ≡ 256 → HaveCome fields come
+    → HaveCome (fields ++ (tag, value) ∷ []) (set come (tag % 256) true)
+one_came fields come tag value whole so_far other there =
+    by (has_tag other fields) refl (tag == other) refl
+    (sym (list_any-append (λ (f : Field). f.0 == other) fields ((tag, value) ∷ [])) ∙ there)
+  where
+    Marked : Type 0
+    Marked = get_or (set come (tag % 256) true) (other % 256) false ≡ true
+
+    by : (before : Bool) → has_tag other fields ≡ before → (here : Bool) → eqb tag other ≡ here
+        → (before || (here || false)) ≡ true → Marked
+    by true e here h there = set_keeps come (tag % 256) (other % 256) (so_far other e)
+    by false e true h there =
+        let same : tag ≡ other = grind (arith, nat_tests, h) in
+        let within : tag % 256 < length come = rw whole (mod_below tag 256 (omega arith)) in
+        ap (λ (n : ℕ). get_or (set come (tag % 256) true) (n % 256) false) (sym same)
+        ∙ get_or-set_same come (tag % 256) true false within
+    by false e false h there = absurd cc
 
 -- a good field of which nothing more is known
 pub other_good : (table : Table Kind) (fields : List Field) (place : ℕ)

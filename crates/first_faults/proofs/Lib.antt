@@ -2,3 +2,4 @@ pub mod OnePass
 pub mod FirstFaults
 pub mod Given
 pub mod ByTags
+pub mod GoodFront

@@ -1,6 +1,6 @@
 -- Inside: a table of the code whose rows are found by their tags, and what a pass by it shows.
-use Rattle.std.specs.Prelude.{◌≡◌, ◌==◌, ◌<◌, ◌≤◌, ◌+◌, ◌||◌, ℕ, Bool, true, false, not, List, []}
-use Rattle.std.specs.Prelude.{◌∷◌, map, Some, None, slice_index_or, if◌then◌else◌}
+use Rattle.std.specs.Prelude.{◌≡◌, ◌==◌, ◌<◌, ◌≤◌, ◌+◌, ◌%◌, ◌||◌, ℕ, Bool, true, false, not, List}
+use Rattle.std.specs.Prelude.{[], ◌∷◌, length, map, Some, None, slice_index_or, if◌then◌else◌}
 use Rattle.std.specs.Borrow.{Bor}
 use Rattle.std.specs.List.{flat_map, list_all, list_any}
 use Rattle.std.specs.declared.option.Option.{Option}
@@ -102,6 +102,11 @@ pub record IsGoodField (table : Table Kind) (fields : List Field) (place : ℕ) 
   pub loose : IsLoose judge fields table place
   pub alone : apart ≡ true → IsAlone table (slice_index_or fields place (0, [])).0
 
+-- marks of the tags of fields by their remainders by 256: a tag without a mark is that of no field
+abbrev pub HaveCome : List Field → List Bool → Type 0
+HaveCome fields come =
+    (tag : ℕ) → has_tag tag fields ≡ true → slice_index_or come (tag % 256) false ≡ true
+
 -- a span of places, with one more behind it
 abbrev pub with_place : Span → ℕ → Bool → Span
 with_place span place true = span
@@ -118,6 +123,11 @@ pub record AreGoodFields (table : Table Kind) (fields : List Field) (count : ℕ
       → IsAlone table (slice_index_or fields place (0, [])).0
   pub behind : (place : ℕ) → span.to ≤ place → place < count
       → IsAlone table (slice_index_or fields place (0, [])).0
+
+-- so many fields at the front are good
+pub record AreGoodTo (table : Table Kind) (fields : List Field) (count : ℕ) : Type 0 where
+  pub within : count ≤ length fields
+  pub loose : (place : ℕ) → place < count → IsLoose judge fields table place
 
 -- an item that is no group, or one of which no field stands outside of a span
 abbrev pub IsApartItem : List Field → Span → Item Kind → Type 0

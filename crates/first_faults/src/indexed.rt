@@ -1,7 +1,9 @@
 //! A table whose rows are found by their tags, and one pass over the fields of a message by it.
 
-ghost use Rattle.std.specs.Prelude.{◌≡◌, ◌<◌, ◌&&◌, IfSome, IsTrue, None, false, map, take, true};
+ghost use Rattle.std.specs.Prelude.{◌≡◌, ◌<◌, ◌&&◌, ◌++◌, ◌∷◌, ℕ, List, [], IfSome, IsTrue, None};
+ghost use Rattle.std.specs.Prelude.{IfNone, Some, false, map, slice_get, take, true};
 ghost use Rattle.std.specs.List.{AllByRecursion, flat_map, list_all};
+ghost use Rattle.field_groups.specs.Field.{Field as ReadField};
 ghost use Rattle.message_tables.specs.declared.table.Table.{Table as CodeTable};
 ghost use Rattle.message_tables.specs.CodeTables.{group_of, item_of, need_of, row_of};
 ghost use Rattle.message_tables.specs.CodeTables.{table_of as code_table};
@@ -12,14 +14,15 @@ ghost use Rattle.message_tables.specs.Stages.{IsFound};
 ghost use Rattle.row_values.specs.declared.kinds.Kind.{Kind as CodeKind};
 ghost use Rattle.row_values.specs.CodeKinds.{kind_of};
 ghost use Rattle.row_values.specs.Kinds.{judge};
-ghost use Rattle.first_faults.specs.Indexed.{AreNeeded, AreSaid, AreTagRows, IsApartItem};
-ghost use Rattle.first_faults.specs.Indexed.{IsGoodField, IsRowOf, IsTagRow, IsWholeItem};
+ghost use Rattle.first_faults.specs.Indexed.{AreGoodTo, AreNeeded, AreSaid, AreTagRows, HaveCome};
+ghost use Rattle.first_faults.specs.Indexed.{IsApartItem, IsGoodField, IsRowOf, IsTagRow};
+ghost use Rattle.first_faults.specs.Indexed.{IsWholeItem};
 ghost use Rattle.first_faults.specs.Indexed.{is_said, may_be_needed, needed_of, of_tag, row_in};
 ghost use Rattle.first_faults.specs.Indexed.{with_place};
 
 use crate::faults::{is_first, is_good, mark, value_fits};
 use arrayvec::ArrayVec;
-use field_groups::Fields;
+use field_groups::{Field, Fields};
 use message_tables::{Found, Item, Mark, Need, RepeatingGroup, Row, Table, TableFault};
 use row_values::Kind;
 use std::marker::Model;
@@ -32,6 +35,12 @@ const MAX_ROWS: usize = 96;
 
 /// The most rows that a message may have to say.
 const MAX_NEEDED: usize = 32;
+
+/// How many marks of the tags that came there are.
+const MARKS: usize = 256;
+
+/// Marks of the tags that came, by their remainders.
+type Come = [bool; MARKS];
 
 /// The first row of a tag in a table.
 #[derive(Clone, Copy)]
@@ -338,6 +347,20 @@ fn is_loose(table: &Table<Kind>, fields: &Fields<'_>, place: usize) -> bool
     }
 }
 
+/// Whether no tag of this remainder came yet. It is marked.
+#[inline(always)]
+fn is_new(come: &mut Come, tag: u32) -> bool
+    ensures new { IsTrue result → (before : List ReadField) → HaveCome before come.old
+        → has_tag tag before ≡ false }
+    ensures come { (before : List ReadField) (value : List ℕ) → HaveCome before come.old
+        → HaveCome (before ++ (tag, value) ∷ []) come.new }
+{
+    let mark = tag as usize % MARKS;
+    let came = come[mark];
+    come[mark] = true;
+    !came
+}
+
 /// A table whose rows are found by their tags.
 #[derive(Drop)]
 pub struct Indexed {
@@ -382,9 +405,37 @@ impl Indexed {
         self.table
     }
 
+    /// Whether a field is good and the first one of a row that is in no group, as most are; `new`
+    /// tells that its tag did not come before.
+    #[inline(always)]
+    fn is_own(&self, fields: &Fields<'_>, place: usize, field: Field<'_>, new: bool) -> bool
+        requires at { Some (field.0, field.1.now) ≡ slice_get fields.now place }
+        requires new { IsTrue new → has_tag field.0 (take place fields.now) ≡ false }
+        ensures { IsTrue result → IsGoodField self.now fields.now place true }
+    {
+        let (tag, value) = field;
+        match self.rows.get(self.table, tag) {
+            TagRow::Own(row) => new && row.kind.accepts(fields, value),
+            _ => false,
+        }
+    }
+
     /// Whether the field at a place is in no group; `None` where it is not good.
     #[inline(always)]
-    fn judge(&self, fields: &Fields<'_>, place: usize) -> Option<bool>
+    fn judge(&self, fields: &Fields<'_>, place: usize, field: Field<'_>, new: bool) -> Option<bool>
+        requires at { Some (field.0, field.1.now) ≡ slice_get fields.now place }
+        requires new { IsTrue new → has_tag field.0 (take place fields.now) ≡ false }
+        ensures { IfSome result (IsGoodField self.now fields.now place) }
+    {
+        if self.is_own(fields, place, field, new) {
+            return Some(true);
+        }
+        self.judge_any(fields, place)
+    }
+
+    /// The same of any field.
+    #[inline(never)]
+    fn judge_any(&self, fields: &Fields<'_>, place: usize) -> Option<bool>
         ensures { IfSome result (IsGoodField self.now fields.now place) }
     {
         let (tag, value) = fields.at(place)?;
@@ -423,18 +474,35 @@ impl Indexed {
         }
     }
 
-    /// Whether one pass over the fields shows that they are at no fault.
-    fn is_plain(&self, fields: &Fields<'_>) -> bool
-        ensures { IsTrue result → first_fault judge self.now fields.now ≡ None }
+    /// How many fields at the front one pass finds good; `None` where it shows that all fields are
+    /// at no fault.
+    #[inline(always)]
+    fn good_len(&self, fields: &Fields<'_>) -> Option<usize>
+        ensures none { IfNone result (first_fault judge self.now fields.now ≡ None) }
+        ensures good { IfSome result (AreGoodTo self.now fields.now) }
     {
+        let parts = fields.as_slice();
+        let mut come = [false; MARKS];
         let mut span = Span { from: 0, to: 0 };
         for place in 0..fields.len() {
-            match self.judge(fields, place) {
-                None => return false,
+            let field = parts[place];
+            let new = is_new(&mut come, field.0);
+            match self.judge(fields, place, field, new) {
+                None => return Some(place),
                 Some(alone) => span = span.with(place, alone),
             }
         }
-        self.are_said(fields) && (span.to == 0 || are_whole(self.table.items, fields, span))
+        if !self.are_said(fields) {
+            return Some(parts.len());
+        }
+        if span.to == 0 {
+            return None;
+        }
+        if are_whole(self.table.items, fields, span) {
+            None
+        } else {
+            Some(parts.len())
+        }
     }
 
     /// What a field is beside its row.
@@ -449,15 +517,17 @@ impl Indexed {
         }
     }
 
-    /// The first faults of the values of these fields.
+    /// The first faults of the values of these fields, of which so many at the front are good.
     #[inline(never)]
-    fn found(&self, fields: &Fields<'_>) -> Found
+    fn found(&self, fields: &Fields<'_>, good: usize) -> Found
+        requires { AreGoodTo self.now fields.now good }
         ensures { IsFound (map (marked judge self.now fields.now) fields.now) result }
     {
-        let mut found = Found::new();
         let parts = fields.as_slice();
-        for (tag, value) in parts {
-            found = found.with(*tag, self.mark(fields, *tag, value));
+        let mut found = Found::new();
+        for place in good..parts.len() {
+            let (tag, value) = parts[place];
+            found = found.with(tag, self.mark(fields, tag, value));
         }
         found
     }
@@ -466,9 +536,9 @@ impl Indexed {
     pub(crate) fn first_fault(&self, fields: &Fields<'_>) -> Option<TableFault>
         ensures { result ≡ first_fault judge self.now fields.now }
     {
-        if self.is_plain(fields) {
-            return None;
+        match self.good_len(fields) {
+            None => None,
+            Some(good) => self.table.first_fault(fields, &self.found(fields, good)),
         }
-        self.table.first_fault(fields, &self.found(fields))
     }
 }

@@ -87,20 +87,28 @@ three_digits-digits n small (suc (suc zero)) d within =
     digit_is (48 + n % 10) (omega arith) (omega arith)
 three_digits-digits n small (suc (suc (suc k))) d within = absurd (omega arith)
 
+-- a trailer that comes ends the frame
+found_trailer-trailer : (before body after : List ℕ)
+    → found_trailer before body (trailer (before ++ body) ++ after) ≡ Whole body after
+found_trailer-trailer before body after =
+    let n = sum (before ++ body) % 256 in
+    let tens = three_digits n in
+    expect_text (codes "10=") (tens ++ (1 ∷ after))
+    Trailer (expect_sum tens (expect (1 ∷ []) Trailer (λ a. Whole body a)))
+    ∙ expect_digits tens (1 ∷ after)
+    (expect (1 ∷ []) Trailer (λ a. Whole body a)) (three_digits-digits n (omega arith))
+    ∙ expect_text (1 ∷ []) after Trailer (λ a. Whole body a)
+
+pub trailer_comes : (before body s : List ℕ)
+    → take 7 s ≡ trailer (before ++ body) → found_trailer before body s ≡ Whole body (drop 7 s)
+trailer_comes before body s is =
+    ap (found_trailer before body)
+    (sym (take-append-drop 7 s) ∙ ap (λ (l : List ℕ). l ++ drop 7 s) is)
+    ∙ found_trailer-trailer before body (drop 7 s)
+
 module _ (before body after : List ℕ) (is_body : IsBody body) where
   abbrev rest : List ℕ
   rest = body ++ (trailer (before ++ body) ++ after)
-
-  found_trailer-trailer : found_trailer before body (trailer (before ++ body) ++ after)
-      ≡ Whole body after
-  found_trailer-trailer =
-      let n = sum (before ++ body) % 256 in
-      let tens = three_digits n in
-      expect_text (codes "10=") (tens ++ (1 ∷ after))
-      Trailer (expect_sum tens (expect (1 ∷ []) Trailer (λ a. Whole body a)))
-      ∙ expect_digits tens (1 ∷ after)
-      (expect (1 ∷ []) Trailer (λ a. Whole body a)) (three_digits-digits n (omega arith))
-      ∙ expect_text (1 ∷ []) after Trailer (λ a. Whole body a)
 
   pub found_body-body : found_body before (length body) rest ≡ Whole body after
   found_body-body =
@@ -126,7 +134,7 @@ module _ (before body after : List ℕ) (is_body : IsBody body) where
       (take_at body (trailer (before ++ body) ++ after) (length body) refl)
       ∙ ap (found_trailer before body)
       (drop_at body (trailer (before ++ body) ++ after) (length body) refl)
-      ∙ found_trailer-trailer
+      ∙ found_trailer-trailer before body after
 
 module _ (body after : List ℕ) (is_body : IsBody body) where
   found_said-digits : (start digits : List ℕ) → SaysLength digits (length body)

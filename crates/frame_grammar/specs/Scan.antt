@@ -1,7 +1,8 @@
 -- Inside: what the parts of the scan say of what stands at the front of a text; no clause of run
 -- rests on it.
 use Rattle.std.specs.Prelude.{◌≡◌, ℕ, ◌+◌, ◌<◌, ◌≤◌, List, [], ◌∷◌, ◌++◌, length, take, drop}
-use Rattle.std.specs.Prelude.{slice_range}
+use Rattle.std.specs.Prelude.{slice_range, slice_index}
+use Rattle.std.specs.Int.{w64, from_le_bytes}
 use Rattle.std.specs.Prelude.{Ok, Err}
 use Rattle.std.specs.declared.result.Result.{Result}
 use Rattle.frame_grammar.specs.declared.frame.TheConstants.{SOH}
@@ -37,3 +38,9 @@ IsFound (Ok front) bytes f = (front.body.start + front.body.len ≤ front.end)
     × (f ≡ Whole (slice_range bytes front.body.start (front.body.start + front.body.len))
     (drop front.end bytes))
 IsFound (Err stop) bytes f = IsStop stop f
+
+-- the first eight bytes as one number
+pub record IsWord (bytes : List ℕ) (word : ℕ) : Type 0 where
+  pub value : word ≡ from_le_bytes w64 (take 8 bytes)
+  pub within : 8 ≤ length bytes
+  pub small : (k : ℕ) → slice_index (take 8 bytes) k < 256

@@ -14,10 +14,10 @@ pub const CAPACITY: usize = 16384;
 
 /// The sums are kept at each so many bytes, so that no sum looks at more than twice as many,
 /// however many frames overlap.
-const BLOCK: usize = 64;
+const BLOCK: usize = 256;
 
 /// The number of sums: before each block, and after the last.
-const SUMS: usize = 257;
+const SUMS: usize = 65;
 
 /// Up to 16,384 bytes of a stream: first those that were read, then those that are unread.
 #[derive(Drop)]
@@ -122,12 +122,20 @@ impl Buffer {
         self.start = 0;
     }
 
+    /// The sum of so many of the unread bytes, modulo 256.
+    pub(crate) fn sum(&self, count: usize) -> u8
+        requires { count ≤ length self.now.unread }
+        ensures { result ≡ sum (take count self.now.unread) % 256 }
+    {
+        sum_between(&self.bytes, &self.sums, self.start, count)
+    }
+
     /// CheckSum(10) after so many of the unread bytes, with its tag and SOH.
     pub(crate) fn trailer(&self, count: usize) -> [u8; 7]
         requires { count ≤ length self.now.unread }
         ensures { result ≡ trailer (take count self.now.unread) }
     {
-        trailer_by(sum_between(&self.bytes, &self.sums, self.start, count))
+        trailer_by(self.sum(count))
     }
 }
 

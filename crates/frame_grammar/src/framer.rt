@@ -28,7 +28,7 @@ pub const LEAST_ROOM: usize = 8000;
 ///
 /// Fed in parts of 4,096 bytes, it looks at each byte a small number of times and moves it a small
 /// number of times, whatever comes: a frame is scanned once in each part that it comes in, a sum
-/// looks at no more than 128 bytes, and what is garbled is dropped as it is searched.
+/// looks at no more than 512 bytes, and what is garbled is dropped as it is searched.
 #[derive(Drop)]
 pub struct Framer {
     kind: Kind,

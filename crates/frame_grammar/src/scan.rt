@@ -1,12 +1,12 @@
 //! The scan of what stands at the front of the unread bytes: rule by rule, as `Found` defines it.
 ghost use Rattle.std.specs.List.{list_any};
 ghost use Rattle.std.specs.Str.{bytes_eq};
-ghost use Rattle.std.specs.Prelude.{◌==◌, ◌≡◌, ◌+◌, ◌≤◌, ◌++◌, List, ℕ, length, take, drop};
-ghost use Rattle.std.specs.Prelude.{if◌then◌else◌, OnOk, Ok};
+ghost use Rattle.std.specs.Prelude.{◌==◌, ◌≡◌, ◌+◌, ◌≤◌, ◌++◌, ◌∷◌, [], List, ℕ, length, take};
+ghost use Rattle.std.specs.Prelude.{drop, if◌then◌else◌, true, codes, IfSome, OnOk, Ok};
 ghost use Rattle.frame_grammar.specs.Found.{Found, Whole, found, expect, expect_sum, found_body};
 ghost use Rattle.frame_grammar.specs.Found.{found_said, found_trailer};
-ghost use Rattle.frame_grammar.specs.Frame.{begin_string};
-ghost use Rattle.frame_grammar.specs.Scan.{Leads, ReadsLength, IsFound};
+ghost use Rattle.frame_grammar.specs.Frame.{begin_string, three_digits};
+ghost use Rattle.frame_grammar.specs.Scan.{Leads, ReadsLength, IsFound, IsWord};
 
 use crate::buffer::{Buffer, CAPACITY};
 use crate::checksum::begin_string_of;
@@ -143,6 +143,50 @@ fn scan_trailer(buffer: &Buffer, end: usize) -> Result<(), Stop>
         (Whole body (drop (end + 7) buffer.now.unread)) }
     ensures came { OnOk result (end + 7 ≤ length buffer.now.unread) }
 {
+    let behind = &buffer.unread()[end..];
+    if is_trailer(buffer.sum(end), behind) {
+        return Ok(());
+    }
+    other_trailer(buffer, end)
+}
+
+// Whether the trailer of this sum comes, as most do.
+#[inline(always)]
+fn is_trailer(total: u8, bytes: &[u8]) -> bool
+    ensures comes { result ≡ true →
+        take 7 bytes.now ≡ codes "10=" ++ three_digits total ++ SOH ∷ [] }
+    ensures within { result ≡ true → 7 ≤ length bytes.now }
+{
+    if bytes.len() < 7 || bytes[6] != SOH {
+        return false;
+    }
+    if bytes[0] != b'1' || bytes[1] != b'0' || bytes[2] != b'=' {
+        return false;
+    }
+    are_digits_of(total, bytes[3], bytes[4], bytes[5])
+}
+
+// Whether three bytes are the digits of this number.
+#[inline(always)]
+fn are_digits_of(total: u8, first: u8, second: u8, third: u8) -> bool
+    ensures { result ≡ true → first ∷ second ∷ third ∷ [] ≡ three_digits total }
+{
+    if !first.is_ascii_digit() || !second.is_ascii_digit() || !third.is_ascii_digit() {
+        return false;
+    }
+    let tens = 10 * (first as u32 - 48) + (second as u32 - 48);
+    10 * tens + (third as u32 - 48) == total as u32
+}
+
+// The trailer behind the first unread bytes, where it is looked at byte by byte.
+#[inline(never)]
+fn other_trailer(buffer: &Buffer, end: usize) -> Result<(), Stop>
+    requires within { end ≤ length buffer.now.unread }
+    ensures leads { (before body : List ℕ) → before ++ body ≡ take end buffer.now.unread →
+        Leads result (found_trailer before body (drop end buffer.now.unread))
+        (Whole body (drop (end + 7) buffer.now.unread)) }
+    ensures came { OnOk result (end + 7 ≤ length buffer.now.unread) }
+{
     let bytes = buffer.unread();
     let trailer = buffer.trailer(end);
     expect_text(&trailer[..3], &bytes[end..], Garble::Trailer)?;
@@ -150,9 +194,34 @@ fn scan_trailer(buffer: &Buffer, end: usize) -> Result<(), Stop>
     expect_text(&trailer[6..], &bytes[end + 6..], Garble::Trailer)
 }
 
-// Whether bytes begin with a text.
+// Whether bytes begin with a text. Of a longer text the first eight bytes are compared as one
+// number.
 #[inline(always)]
 fn begins(text: &[u8], bytes: &[u8]) -> bool
+    ensures { result ≡ bytes_eq text.now (take (length text.now) bytes.now) }
+{
+    match (front_word(text), front_word(bytes)) {
+        (Some(want), Some(word)) => want == word && begins_with(&text[8..], &bytes[8..]),
+        _ => begins_with(text, bytes),
+    }
+}
+
+// The first eight bytes as a number; `None` where there are fewer.
+#[inline(always)]
+fn front_word(bytes: &[u8]) -> Option<u64>
+    ensures { IfSome result (IsWord bytes.now) }
+{
+    match bytes {
+        [a, b, c, d, e, f, g, h, ..] => {
+            Some(u64::from_le_bytes([*a, *b, *c, *d, *e, *f, *g, *h]))
+        }
+        _ => None,
+    }
+}
+
+// The same, byte by byte.
+#[inline(always)]
+fn begins_with(text: &[u8], bytes: &[u8]) -> bool
     ensures { result ≡ bytes_eq text.now (take (length text.now) bytes.now) }
 {
     bytes.len() >= text.len() && text == &bytes[..text.len()]

@@ -233,6 +233,8 @@ impl Chunk {
         requires { IsOf (D.bytes disk.old) self.old }
         ensures of { OnOk result (IsOf (D.bytes disk.new) self.new) }
         ensures shut { result ≡ Ok true → IfSome (D.bytes disk.old) (λ b. IsShut (drop at b)) }
+        ensures open { result ≡ Ok false → IfSome (D.bytes disk.old) (λ b.
+            IsShut (drop at b) → ⊥) }
         ensures only_read { OnlyReads D.bytes D.image disk.old disk.new }
         ensures cause { HasFaultCause (D.faults disk.old) (D.faults disk.new) result }
         ensures only { OnErr result (result ≡ Err LogError.DiskFault) }

@@ -1,7 +1,7 @@
 //! A side's turn in a round: its poll, what came, and its tick.
 
 ghost use Rattle.std.specs.Prelude.{◌≡◌, ◌≤◌, ◌<◌, ℕ, List, [], ◌∷◌, length, map, is_some, true};
-ghost use Rattle.std.specs.Prelude.{IfOk, IfErr, OnOk};
+ghost use Rattle.std.specs.Prelude.{IfOk, OnOk};
 ghost use Rattle.frame_grammar.specs.Cut.{Piece};
 ghost use Rattle.frame_grammar.specs.Frame.{IsBody};
 ghost use Rattle.frame_grammar.specs.Framer.{StandsFor};
@@ -14,8 +14,7 @@ ghost use Rattle.wires.specs.Wire.{Poll, Nothing, Fits, came_of, may_come};
 ghost use Rattle.life_laws.specs.Happens.{up_on};
 ghost use Rattle.life_laws.specs.Turn.{on_side, with_up, up_after, events_of};
 ghost use Rattle.wire_sends.specs.Sent.{Agrees};
-ghost use Rattle.kept_entries.specs.Days.{past_of};
-ghost use Rattle.gateway_life.specs.Ready.{Ready, world_of, LeavesOf, IfTold, Behind};
+ghost use Rattle.gateway_life.specs.Ready.{Ready, world_of};
 ghost use Rattle.gateway_life.specs.State.{seen};
 ghost use Rattle.gateway_life.specs.Stepped.{Grew, records};
 ghost use Rattle.gateway_life.specs.Dealt.{Dealt, TurnOver, around};

@@ -1,8 +1,8 @@
 //! The lines that `check` prints.
 
-ghost use Rattle.std.specs.Prelude.{◌≡◌, ◌==◌, ◌++◌, position, decimal, OnOk};
+ghost use Rattle.std.specs.Prelude.{◌≡◌, ◌==◌, ◌++◌, ◌∷◌, [], position, decimal, OnOk};
 ghost use Rattle.gateway_top.specs.MsgType.{type_in};
-ghost use Rattle.gateway_top.specs.Line.{head, tag_words, no_counterpart, finding_words};
+ghost use Rattle.gateway_top.specs.Line.{LF, head, tag_words, no_counterpart, finding_words};
 ghost use Rattle.gateway_top.specs.Line.{cause_name};
 ghost use Rattle.gateway_top.specs.Line.{frame_line, garbled_line, inside_line};
 
@@ -44,6 +44,7 @@ fn cause_name(cause: Garble) -> &'static [u8]
 }
 
 /// Appends a number in decimal digits.
+#[inline(always)]
 fn append_number(number: u64, out: &mut Vec<u8>) -> Result<(), AllocError>
     ensures { OnOk result (out.new.items ≡ out.old.items ++ decimal number) }
 {
@@ -51,6 +52,7 @@ fn append_number(number: u64, out: &mut Vec<u8>) -> Result<(), AllocError>
 }
 
 /// Appends what each line begins with: the place of a piece, what it is, and its length.
+#[inline(always)]
 fn append_head(at: u64, what: &[u8], len: u64, out: &mut Vec<u8>) -> Result<(), AllocError>
     ensures { OnOk result (out.new.items ≡ out.old.items ++ head at what.now len) }
 {
@@ -74,31 +76,32 @@ fn append_tag(tag: u32, out: &mut Vec<u8>) -> Result<(), AllocError>
     append_number(u64::from(tag), out)
 }
 
-/// Appends that what stands at a tag has no counterpart.
+/// Appends that what stands at a tag has no counterpart, and LF.
 #[tactic(auto, unfolding(crate::specs::Line::no_counterpart))]
 fn append_no_counterpart(out: &mut Vec<u8>) -> Result<(), AllocError>
-    ensures { OnOk result (out.new.items ≡ out.old.items ++ no_counterpart) }
+    ensures { OnOk result (out.new.items ≡ out.old.items ++ no_counterpart ++ LF ∷ []) }
 {
-    append_text(b" no counterpart", out)
+    append_text(b" no counterpart\n", out)
 }
 
-/// Appends what is found of a frame.
+/// Appends what is found of a frame, and LF.
 fn append_finding(finding: Finding, out: &mut Vec<u8>) -> Result<(), AllocError>
-    ensures { OnOk result (out.new.items ≡ out.old.items ++ finding_words finding) }
+    ensures { OnOk result (out.new.items ≡ out.old.items ++ finding_words finding ++ LF ∷ []) }
 {
     match finding {
-        Finding::Session => append_text(b" session", out),
-        Finding::Good => append_text(b" ok", out),
+        Finding::Session => append_text(b" session\n", out),
+        Finding::Good => append_text(b" ok\n", out),
         Finding::Reason { tag, reason } => {
             append_tag(tag.unwrap_or(0), out)?;
             append_text(b" reason ", out)?;
-            append_number(u64::from(reason), out)
+            append_number(u64::from(reason), out)?;
+            append_text(b"\n", out)
         }
         Finding::NoCounterpart { tag } => {
             append_tag(tag, out)?;
             append_no_counterpart(out)
         }
-        Finding::NotSupported => append_text(b" not supported", out),
+        Finding::NotSupported => append_text(b" not supported\n", out),
     }
 }
 
@@ -116,9 +119,7 @@ pub(crate) fn append_frame(
     append_head(at, b" frame ", len, out)?;
     out.push(b' ')?;
     out.extend_from_slice(type_in(body))?;
-    append_finding(finding, out)?;
-    out.push(b'\n')?;
-    Ok(())
+    append_finding(finding, out)
 }
 
 /// Appends the line of a garbled piece: its place, its length and its cause.

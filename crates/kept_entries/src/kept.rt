@@ -16,7 +16,7 @@ use crate::reached::{Keeper, Reached};
 use crate::sources::{Source, find, note};
 use crate::spot::{STRIDE, Spot, mark, mark_of, marks_behind, start};
 use order_meaning::Side;
-use pair_entries::{Entry, EntryRef, MAX_OUTS};
+use pair_entries::{EntryRef, MAX_OUTS};
 use std::alloc::{AllocError, Global};
 use std::marker::Model;
 
@@ -90,24 +90,9 @@ impl Kept {
         Ok(())
     }
 
-    /// Adds an entry that was committed, for which there is room, by the length of its payload.
-    pub fn add(&mut self, entry: &Entry, len: u64)
-        requires spare { 1 ≤ self.old.spare }
-        requires sound { IsEntry entry.now }
-        requires goes_on { GoesOn (numbers_before
-            (numbers_after first_numbers self.old.entries) entry.now) entry.now }
-        requires len { len ≡ length (payload_behind self.old.entries entry.now) }
-        requires limit { end_of self.old.entries + 5 + len < 2 ^ 32 }
-        ensures { self.new ≡ record {
-          entries = self.old.entries ++ entry.now ∷ [];
-          spare = self.old.spare - 1;
-        } }
-    {
-        self.add_ref(&entry.as_ref(), len);
-    }
-
-    /// The same of one where its bytes stand.
-    fn add_ref(&mut self, entry: &EntryRef<'_>, len: u64)
+    /// Adds an entry that was read or committed, for which there is room, by the length of its
+    /// payload.
+    pub fn add(&mut self, entry: &EntryRef<'_>, len: u64)
         requires spare { 1 ≤ self.old.spare }
         requires sound { IsEntry entry.now }
         requires goes_on { GoesOn (numbers_before
@@ -173,7 +158,7 @@ impl Keeper for Kept {
 
     fn keep(&mut self, entry: &EntryRef<'_>, len: u64) -> Result<(), AllocError> {
         self.reserve()?;
-        self.add_ref(entry, len);
+        self.add(entry, len);
         Ok(())
     }
 }

@@ -111,13 +111,7 @@ worked_first_event = record {
   decision = first_decision;
   decides = record { words = None; answer = refl; decided = refl };
   entries = refl;
-  client = record {
-    sent = [];
-    still = false;
-    sends = (refl, refl);
-    all = refl;
-    ends = refl;
-  };
+  client = record { sent = []; still = false; sends = (refl, refl); all = refl; ends = refl };
   venue = record {
     sent = call Venue (First (placed_at moment logon)) ∷ [];
     still = true;
@@ -217,13 +211,7 @@ worked_request_too_high = record {
     all = refl;
     ends = refl;
   };
-  venue = record {
-    sent = [];
-    still = false;
-    sends = (refl, refl);
-    all = refl;
-    ends = refl;
-  };
+  venue = record { sent = []; still = false; sends = (refl, refl); all = refl; ends = refl };
   sessions = refl;
 }
 
@@ -248,13 +236,7 @@ worked_failed_send = record {
     all = refl;
     ends = refl;
   };
-  venue = record {
-    sent = [];
-    still = false;
-    sends = (refl, refl);
-    all = refl;
-    ends = refl;
-  };
+  venue = record { sent = []; still = false; sends = (refl, refl); all = refl; ends = refl };
   sessions = refl;
 }
 

@@ -34,11 +34,14 @@ abbrev pub IsFault : Asked → Fault → Type 0
 IsFault asked fault = (message_of asked.side asked.body ≡ Err fault)
     ⊎ ((tag : ℕ) × (tag < 2 ^ 32) × (NoCounterpart tag ≡ fault))
 
+-- it was read, and is a refusal or none
 pub record IsRead (asked : Asked) (refuses : Bool) (m : Message) : Type 0 where
   pub reads : message_of asked.side asked.body ≡ Ok m
   pub is : is_refusal m ≡ refuses
 
 module _ (known : Known) (active : Bool) (asked : Asked) (words : Option Words) where
+  -- The message is refused: for its fault, for an id that was used, or while the venue is away. Or
+  -- it repeats a request that went on. A refusal names nothing, or is told. Or the message goes on.
   pub data IsGiven : Type 0 where
     Faulty : (fault : Fault) → IsFault asked fault → words ≡ near_words asked
         (refusal_of asked.side asked.number (type_of asked.body) fault) → IsGiven

@@ -262,8 +262,7 @@ counts_words (One row ∷ items) good =
     counts_words items (both (is_good_tag row.tag) (list_all has_good_tags items) good).1
 counts_words (Party role ∷ items) good = counts_words items good
 counts_words (Lines group ∷ items) good =
-    let g = both (is_good_tag group.count && list_all (λ row. is_good_tag row.tag) group.rows)
-    (list_all has_good_tags items) good in
+    let g = both _ _ good in
     let t = both (is_good_tag group.count) (list_all (λ row. is_good_tag row.tag) group.rows) g.0 in
     (good_word group.count t.0, counts_words items g.1)
 
@@ -347,8 +346,7 @@ pair_word : (pairs : List (ℕ × ℕ)) (len tag : ℕ)
     → list_any (λ pair. pair.0 == len && pair.1 == tag) pairs ≡ true → IsWordNumber tag
 pair_word [] len tag all is = absurd cc
 pair_word (pair ∷ pairs) len tag all is =
-    let p = both (nat_le pair.1 999_999_999) (list_all (λ pair. nat_le pair.1 999_999_999) pairs)
-    all in
+    let p = both _ _ all in
     by (pair.0 == len) (pair.1 == tag) refl p.0 is (λ later. pair_word pairs len tag p.1 later)
   where
     by : (a b : Bool) → (pair.1 == tag) ≡ b → nat_le pair.1 999_999_999 ≡ true

@@ -50,8 +50,7 @@ pub joins_by : (source : Option (ℕ × ℕ)) (letter : ℕ) → joining_by sour
 joins_by None letter h = absurd cc
 joins_by (Some (number, l)) letter h = by (is_one_of joining l) refl h
   where
-    by : (join : Bool) → is_one_of joining l ≡ join
-        → (if join then Some l else None) ≡ Some letter
+    by : (join : Bool) → is_one_of joining l ≡ join → (if join then Some l else None) ≡ Some letter
         → (n : ℕ) × (is_one_of joining letter ≡ true) × (source_by true number l ≡ Some (n, letter))
     by true holds h =
         let same : l ≡ letter = cc in (

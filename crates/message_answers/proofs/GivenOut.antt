@@ -20,7 +20,7 @@ use Rattle.session_core.specs.declared.said.Said.{Said}
 use Rattle.session_core.specs.declared.tag.TheConstants.{REF_SEQ_NUM}
 use Rattle.pair_entries.specs.declared.TheConstants.{MAX_CONTENT, MAX_NUMBER}
 use Rattle.pair_entries.specs.declared.entry.Entry.{Entry}
-use Rattle.sound_laws.proofs.Each.{both, not_true}
+use Rattle.sound_laws.proofs.Each.{both, each_by, not_true}
 use Rattle.sound_laws.proofs.PlainFields.{all_of, is_good_tag, plain_field}
 use Rattle.reject_rules.specs.Content.{reject, business_reject}
 use Rattle.reject_rules.specs.Laws.{HasWords, IsOf, IsRefusalField, IsShort, refusal_tags}
@@ -55,11 +55,8 @@ is_given letter =
 
 type_given : (letter : ℕ) → is_one_of (codes "DFGH893j") letter ≡ true → IsGivenType (letter ∷ [])
 type_given letter listed =
-    let a = both (not (is_soh letter)) (not (bytes_eq (letter ∷ []) (codes "4"))
-    && not (list_any (bytes_eq (letter ∷ [])) session_types))
-    (among is_given (codes "DFGH893j") letter refl listed) in
-    let b = both (not (bytes_eq (letter ∷ []) (codes "4")))
-    (not (list_any (bytes_eq (letter ∷ [])) session_types)) a.1 in
+    let a = both _ _ (among is_given (codes "DFGH893j") letter refl listed) in
+    let b = both _ _ a.1 in
     record {
       typed = omega arith;
       short = omega arith;
@@ -93,31 +90,29 @@ by_parts said fields of content given bounded = record {
 word : (n : ℕ) → n ≤ MAX_NUMBER → n < 2 ^ 32
 word n few = omega (arith, few)
 
-refusal_plain : (fs : List Field) → All IsRefusalField fs → AllByRecursion IsPlainField fs
+refusal_plain : (f : Field) → IsRefusalField f → IsPlainField f
 unfolding is_data_tag
-refusal_plain [] all = tt
-refusal_plain (f ∷ fs) all =
-    let here = All-head IsRefusalField f fs all in (
-      plain_field f.0 f.1 (among is_good_tag refusal_tags f.0 refl here.listed) here.no_soh,
-      refusal_plain fs (All-tail IsRefusalField f fs all),
-    )
+refusal_plain f here =
+    plain_field f.0 f.1 (among is_good_tag refusal_tags f.0 refl here.listed) here.no_soh
 
-refusal_tags_of : (fs : List Field) → All IsRefusalField fs
-    → AllByRecursion (λ f. is_one_of refusal_tags f.0 ≡ true) fs
-refusal_tags_of [] all = tt
-refusal_tags_of (f ∷ fs) all = (
-  (All-head IsRefusalField f fs all).listed,
-  refusal_tags_of fs (All-tail IsRefusalField f fs all),
+refusal_fields : (fs : List Field) → All IsRefusalField fs → AllByRecursion IsRefusalField fs
+refusal_fields [] all = tt
+refusal_fields (f ∷ fs) all = (
+  All-head IsRefusalField f fs all,
+  refusal_fields fs (All-tail IsRefusalField f fs all),
 )
 
 refusal_given : (number : ℕ) (said : Said) → IsOfType said → IsOf number said → IsShort said
     → IsGivenOut said
 refusal_given number said typed of short =
     let fs : List Field = (REF_SEQ_NUM, decimal number) ∷ of.more in
+    let each = refusal_fields fs of.fields in
     by_parts said fs typed of.written (record {
-      good = plain_are None fs (all_of fs (refusal_plain fs of.fields));
+      good = plain_are None fs (all_of fs
+          (each_by IsRefusalField IsPlainField refusal_plain fs each));
       few = omega (arith, of.few);
-      apart = apart_of refusal_tags fs refl (refusal_tags_of fs of.fields);
+      apart = apart_of refusal_tags fs refl (each_by IsRefusalField
+          (λ f. is_one_of refusal_tags f.0 ≡ true) (λ f here. here.listed) fs each);
     }) (omega (arith, short.short))
 
 reject_type : (r : Refusal) → IsOfType (reject r)

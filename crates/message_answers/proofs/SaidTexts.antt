@@ -45,10 +45,7 @@ module _ (fields : List Field) where
           → judge [] (Value Id) (b ∷ bs)
           ≡ verdict_of (if t then Ok (Some (b ∷ bs)) else Err Range)
           → IfSome (text_of (verdict_of (if t then Ok (Some (b ∷ bs)) else Err Range))) IsShortId
-      by true e same = record {
-        is = (same, clear);
-        short = leb-true (length (b ∷ bs)) 128 e;
-      }
+      by true e same = record { is = (same, clear); short = leb-true (length (b ∷ bs)) 128 e }
       by false e same = tt
 
   text_said_of : (bytes : List ℕ) → HasNoSoh bytes

@@ -1,6 +1,6 @@
 -- The content of what goes on: fields that are no raw data, not too many, and none of them of the
 -- header.
-use Rattle.std.proofs.Common.{◌≡◌, ◌≤◌, ℕ, ◌||◌, not, Bool, true, false, List, [], ◌∷◌}
+use Rattle.std.proofs.Common.{◌≡◌, ◌≤◌, ℕ, not, Bool, true, false, List, [], ◌∷◌}
 use Rattle.std.proofs.Common.{length, Option, Some, None, IfSome, refl, sym, ap, subst, arith, lit≤}
 use Rattle.std.specs.List.{flat_map, list_all, list_any}
 use Rattle.field_groups.specs.Data.{is_data_tag}
@@ -13,6 +13,7 @@ use Rattle.rows_fix50.specs.Header.{table}
 use Rattle.dict_fix50.specs.Requests.{new_order, cancel_request, replace_request, status_request}
 use Rattle.reports_fix42.specs.Message.{cancel_reject_table, execution_report_table}
 use Rattle.sound_laws.specs.Sound.{IsSound}
+use Rattle.sound_laws.proofs.Each.{neither, not_true}
 use Rattle.sound_laws.proofs.Found.{items_of}
 use Rattle.sound_laws.proofs.PlainFields.{all_of, few_of, has_good_tags, most_of, times}
 use Rattle.sound_laws.proofs.Stages.{AreOf, item_tags}
@@ -39,13 +40,8 @@ pub apart_of : (tags : List ℕ) (fields : List Field) → list_all is_behind ta
     → AreOf tags fields → list_any is_in_header fields ≡ false
 apart_of tags [] behind of = refl
 apart_of tags (f ∷ fs) behind of =
-    by (is_one_of header_tags f.0) (among is_behind tags f.0 behind of.0)
-    (apart_of tags fs behind of.1)
-  where
-    by : (b : Bool) → not b ≡ true → list_any is_in_header fs ≡ false
-        → (b || list_any is_in_header fs) ≡ false
-    by false other rest = rest
-    by true other rest = absurd cc
+    neither (is_one_of header_tags f.0) (list_any is_in_header fs)
+    (not_true _ (among is_behind tags f.0 behind of.0)) (apart_of tags fs behind of.1)
 
 -- THE CONTENT OF A SOUND MESSAGE
 sound_given : (t : Table Kind) (m : Message) → list_all has_good_tags t.items ≡ true

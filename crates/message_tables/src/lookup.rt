@@ -61,10 +61,7 @@ impl<'a> Lookup for Fields<'a> {
     fn value(&self, tag: u32) -> Option<&[u8]> {
         match self.find(tag) {
             None => None,
-            Some(place) => match self.at(place) {
-                None => None,
-                Some((_, value)) => Some(value),
-            },
+            Some(place) => Some(self.field(place).1),
         }
     }
 }

@@ -20,7 +20,6 @@ use Rattle.pair_journal.specs.State.{JournalState}
 use Rattle.pair_journal.specs.Calls.{Loads, BornOrNot, ReadsOnly}
 use Rattle.pair_journal.specs.Loading.{Tells, HasNames, HasExtent}
 use Rattle.pair_entries.proofs.Names.{birth_size}
-use Rattle.pair_journal.proofs.Walking.{only_read_on}
 
 -- ---- a disk that is only read
 
@@ -173,17 +172,6 @@ pub one_still : (told read : Option (List ℕ)) (before between : List ℕ → T
 one_still told read before between only_read one = if_some read _ (λ b e image left.
     at_some told (λ x. Only x before) b (sym only_read.same ∙ e) one image
     (only_read.images image left))
-
-pub unborn_behind : (told read after : Option (List ℕ)) (i j k : List ℕ → Type 0)
-    → log.OnlyRead told read i j
-    → IfSome read (λ b. JournalOf b Unborn ⊎ log.OnlyRead read after j k)
-    → IfSome told (λ b. JournalOf b Unborn ⊎ log.OnlyRead told after i k)
-unborn_behind told read after i j k one either = if_some told _ (λ b e.
-    elim (at_some read (λ x. JournalOf x Unborn ⊎ log.OnlyRead read after j k) b
-    (one.same ∙ e) either) [
-      | inl unborn ↦ inl unborn
-      | inr two ↦ inr (only_read_on told read after i j k one two)
-    ])
 
 pub on_ok_one : {T E : Type 0} (told read : Option (List ℕ)) (before between : List ℕ → Type 0)
     (Q : Type 0) (r : Result T E) → log.OnlyRead told read before between

@@ -432,7 +432,7 @@ impl Journal {
         let len = payload.len() as u64;
         self.log.append(disk, payload)?;
         let entry = dated.into_entry();
-        self.kept.add(&entry, len);
+        self.kept.add(&entry.as_ref(), len);
         Ok(entry)
     }
 

@@ -26,8 +26,7 @@ module _ (header : List (Row Kind)) (strict : Bool) where
   pub session_reject_means : (fields : List Field) (m : Refusal) → IsSessionReject fields m
       → session_reject_says m ≡ once (message_in judge session_reject_table fields)
   session_reject_means fields m w =
-      let e : (session_reject_says m).cells
-      ≡ (message_in judge session_reject_table fields).cells =
+      let e : (session_reject_says m).cells ≡ (message_in judge session_reject_table fields).cells =
       cell w.number (cell w.tag (cell w.msg_type (cell w.reason (cell w.text refl)))) in
       λ i. record { letter = 51; resend = false; cells = e i; groups = [] }
 

@@ -6,7 +6,6 @@ use Rattle.std.specs.Result.{result_ok}
 use Rattle.std.specs.Str.Parse.{digits_value}
 use Rattle.typed_fields.specs.declared.fault.FieldFault.{FieldFault}
 use Rattle.typed_fields.specs.declared.month_year.MonthYear.{MonthYear as MonthValue}
-use Rattle.typed_fields.specs.declared.day.Day.{Day as DayValue}
 use Rattle.typed_fields.specs.Digits.{has_pattern, number_of}
 use Rattle.typed_fields.specs.Day.{day_number, is_date, read_day, spells_date}
 use Rattle.typed_fields.specs.MonthYear.{read_month_year, year_in, month_in}
@@ -59,17 +58,17 @@ day_value fields date h =
 
 -- ---- a month
 
-month_read : (text : List ℕ) (r : Result MonthValue FieldFault)
-    → verdict_of (spelt (λ _. text) r) ≡ Spells text → (x : MonthValue) × (r ≡ Ok x)
-month_read text (Ok x) h = (x, refl)
-month_read text (Err fault) h = absurd cc
+was_read : {A : Type 0} (text : List ℕ) (r : Result A FieldFault)
+    → verdict_of (spelt (λ _. text) r) ≡ Spells text → (x : A) × (r ≡ Ok x)
+was_read text (Ok x) h = (x, refl)
+was_read text (Err fault) h = absurd cc
 
 is_month : (text : List ℕ) → verdict_of (spelling MonthYear text) ≡ Spells text
     → read_month_year text ≡ Ok (record { year = year_in text; month = month_in text })
 unfolding spelling
 is_month [] h = absurd cc
 is_month (b ∷ bs) h =
-    let read = month_read (b ∷ bs) (read_month_year (b ∷ bs)) h in
+    let read = was_read (b ∷ bs) (read_month_year (b ∷ bs)) h in
     let parts = judged_ok (b ∷ bs) _ _
     (record { year = year_in (b ∷ bs); month = month_in (b ∷ bs) }) read.0 read.1 in
     judged_good (b ∷ bs) _ _ (record { year = year_in (b ∷ bs); month = month_in (b ∷ bs) })
@@ -84,17 +83,12 @@ filled_spelled (b ∷ bs) (Err fault) h = absurd cc
 
 -- ---- the day of a month
 
-day_read : (text : List ℕ) (r : Result DayValue FieldFault)
-    → verdict_of (spelt (λ _. text) r) ≡ Spells text → (x : DayValue) × (r ≡ Ok x)
-day_read text (Ok x) h = (x, refl)
-day_read text (Err fault) h = absurd cc
-
 date_good : (date : List ℕ) → verdict_of (spelling Day date) ≡ Spells date
     → spells_date date ≡ true
 unfolding spelling
 date_good [] h = absurd cc
 date_good (b ∷ bs) h =
-    let read = day_read (b ∷ bs) (read_day (b ∷ bs)) h in
+    let read = was_read (b ∷ bs) (read_day (b ∷ bs)) h in
     (judged_ok (b ∷ bs) (has_pattern (codes "YYYYMMDD") (b ∷ bs)) (spells_date (b ∷ bs))
     (record { day = day_number (b ∷ bs) }) read.0 read.1).bound
 

@@ -1,5 +1,5 @@
 -- What goes down of a report stands for it: the two tables.
-use Rattle.std.proofs.Common.{◌≡◌, ℕ, List, [], ◌∷◌, true, false, None, refl, sym, ap, subst, ◌∙◌}
+use Rattle.std.proofs.Common.{◌≡◌, ℕ, List, [], ◌∷◌, None, refl, sym, ap, subst, ◌∙◌}
 use Rattle.std.proofs.Common.{option_map}
 use Rattle.std.specs.Prelude.{IfSome, Ok, ◌==◌, if◌then◌else◌}
 use Rattle.message_tables.specs.Tables.{Message, Said, Item, Table}
@@ -27,33 +27,12 @@ use Rattle.report_rules.specs.Down.{Reports50, Rejects50, StandsFor, IsReport42}
 use Rattle.report_rules.proofs.KindsDown.{are_kinds, report_own, reject_own}
 use Rattle.report_rules.proofs.SenseDown.{keeps_books, keeps_sense, has_codes, not_lacking}
 use Rattle.report_rules.proofs.SoundDown.{ordinary_by, sound_down}
-use Rattle.report_rules.proofs.TablesDown.{GoesDown, each_made, items_down, make}
+use Rattle.report_rules.proofs.SoundDown.{GoesDown, each_made, items_down, make}
 use Rattle.rows_fix42.specs.Header.{table as table42}
 use Rattle.rows_fix50.specs.Header.{table as table50}
 
 pub report_goes : GoesDown (down_rules (Same 41)) reports50.execution_report
-report_goes = record {
-  fits =
-      refl & refl & refl & refl
-      & (λ h. refl) & (λ h. refl) & (λ h. refl) & refl
-      & refl & tt & (refl, refl, refl) & tt & tt & (refl, refl) & (refl, refl)
-      & refl & refl & refl & refl & refl & refl & refl & refl
-      & (refl, refl) & refl & refl & refl & refl & refl & refl & refl & refl & (refl, refl)
-      & refl & refl & refl & (refl, refl, refl) & (refl, refl, refl)
-      & refl & refl & refl & refl & refl & refl
-      & refl & (tt, refl) & refl & refl & (refl, refl, refl, tt) & tt;
-  exec_type = refl;
-  status = refl;
-  both = λ h. refl;
-  typed = λ h. (refl, refl, refl);
-  timed = λ h. refl;
-  dates = refl;
-  dated = λ h. (refl, refl, refl);
-  types = refl;
-  execs = refl;
-  months = refl;
-  days = refl;
-}
+report_goes = search
 
 pub reject_goes : (known : Said) → IfSome known IsId
     → GoesDown (down_rules (Original known)) reports50.cancel_reject
@@ -63,12 +42,15 @@ reject_goes known id = record {
       & (λ h. absurd cc) & (λ h. absurd cc) & (λ h. absurd cc) & tt
       & tt & tt & tt & tt & tt & (tt, refl) & (tt, refl)
       & refl & refl & refl & refl & refl & refl & refl & refl
-      & (tt, tt) & tt & refl & refl & refl & tt & refl & refl & refl & (tt, tt)
+      & tt & tt & refl & refl & refl & tt & refl & refl & refl & tt
       & refl & refl & refl & tt & tt
       & refl & refl & refl & refl & refl & refl
       & refl & (refl, refl) & refl & refl & (refl, tt, tt, refl) & tt;
   exec_type = tt;
   status = refl;
+  date = tt;
+  type = tt;
+  time = tt;
   both = λ h. absurd cc;
   typed = λ h. absurd cc;
   timed = λ h. absurd cc;
@@ -82,22 +64,15 @@ reject_goes known id = record {
 
 -- ---- the two reports
 
-other_letter : (letter k n : ℕ) → letter ≡ k → (k == n) ≡ false → (letter == n) ≡ true → ⊥
-other_letter letter k n is apart e =
-    let P : ℕ → Type 0 = λ l. (l == n) ≡ true in
-    let there : (k == n) ≡ true = subst P is e in
-    absurd (let not = sym there ∙ apart in cc)
-
 report_ordinary : (m : Message) → IsComplete tables50.report_table m → IsOrdinary m
 report_ordinary m c =
-    ordinary_by (down_rules (Same 41)) report_own 56 reports50.execution_report report_goes m c.sound
-    c.month refl refl refl (λ h. refl) (λ h. absurd (other_letter m.letter 56 57 c.sound.letter refl h))
+    ordinary_by (down_rules (Same 41)) report_own 56 reports50.execution_report report_goes m
+    c.sound c.month (λ h. refl) (λ h. absurd cc)
 
 reject_ordinary : (m : Message) → IsComplete tables50.cancel_reject_table m → IsOrdinary m
 reject_ordinary m c =
     ordinary_by (down_rules (Original None)) (reject_own None) 57 reports50.cancel_reject
-    (reject_goes None tt) m c.sound c.month tt tt tt
-    (λ h. absurd (other_letter m.letter 57 56 c.sound.letter refl h)) (λ h. (refl, refl))
+    (reject_goes None tt) m c.sound c.month (λ h. absurd cc) (λ h. (refl, refl))
 
 ordinary : (m : Message) → IsReport50 m → IsOrdinary m
 ordinary m (Reports50 c) = report_ordinary m c

@@ -21,11 +21,9 @@ use Rattle.rule_rows.proofs.Said as source
 use Rattle.report_rules.specs.Rules.{Same, Original, at, down_rules, kinds, lacks_type}
 use Rattle.report_rules.specs.Rules.{down_message, rules_for, trans_type}
 use Rattle.report_rules.specs.Down.{Lacks, LacksMean, NoSense, NoOriginal, Reports50, Rejects50}
+use Rattle.report_rules.proofs.Codes.{exec_types}
 use Rattle.report_rules.proofs.GoDown.{rules_of}
 use Rattle.rule_rows.proofs.Carried.{is_known_of}
-
-abbrev exec_types : List ℕ
-exec_types = codes "03456789ABCDEFGHIJKL"
 
 -- an ExecType has a counterpart just where it means a report
 alike : ℕ → Bool
@@ -54,11 +52,6 @@ no_sense code listed =
 pub lacking : (lack : Option ℕ) (m : Message) (tag : ℕ) → or_lack lack m ≡ Err tag → lack ≡ Some tag
 lacking None m tag h = absurd cc
 lacking (Some other) m tag h = cc
-
-one_lack : (b : Bool) (tag other : ℕ) → or_else (lack_if b other) None ≡ Some tag
-    → (b ≡ true) × (tag ≡ other)
-one_lack true tag other h = let is : other ≡ tag = cc in (refl, sym is)
-one_lack false tag other h = absurd cc
 
 pub report_lack : (m : Message) → lack_by kinds (down_rules (Same 41)) m
     ≡ or_else (lack_if (lacks_type (code_if m.cells 150)) 150) None
@@ -100,55 +93,37 @@ means_nothing m c =
         is_none (exec_of (unwrap_or (code_of x) 0)) ≡ lacks_type (code_of x) in
         subst P (sym t.is) (no_sense t.code t.listed)
 
-report_case : (known : Said) (m : Message) (tag : ℕ) → IsComplete tables50.report_table m
-    → lack_by kinds (down_rules (Same 41)) m ≡ Some tag → Lacks known m tag
-report_case known m tag c lack =
-    let p = one_lack (lacks_type (code_if m.cells 150)) tag 150 (sym (report_lack m) ∙ lack) in
-    NoSense p.1 (by (report50 m) (means_nothing m c ∙ p.0))
-  where
-    by : (o : Option Report) → is_none o ≡ true → o ≡ None
-    by None h = refl
-    by (Some report) h = absurd cc
-
-two_lacks : (a b : Bool) (tag : ℕ) → b ≡ false
-    → or_else (lack_if a 41) (or_else (lack_if b 150) None) ≡ Some tag → (a ≡ true) × (tag ≡ 41)
-two_lacks true b tag e h = let is : 41 ≡ tag = cc in (refl, sym is)
-two_lacks false true tag e h = absurd cc
-two_lacks false false tag e h = absurd cc
-
-neither : (said known : Said) → not (is_some (or_known said known)) ≡ true
-    → (said ≡ None) × (known ≡ None)
-neither None None h = (refl, refl)
-neither None (Some id) h = absurd cc
-neither (Some id) known h = absurd cc
-
 -- a cancel reject has no ExecType
 pub no_type : (m : Message) → IsComplete tables50.cancel_reject_table m
     → lacks_type (code_if m.cells 150) ≡ false
 no_type m c = ap (λ (v : Said). lacks_type (v >>= code_of))
     (source.no_row tables50.cancel_reject_table m c.sound 150 refl)
 
-reject_case : (known : Said) (m : Message) (tag : ℕ) → IsComplete tables50.cancel_reject_table m
-    → lack_by kinds (down_rules (Original known)) m ≡ Some tag → Lacks known m tag
-reject_case known m tag c lack =
-    let typed : lacks_type (code_if m.cells 150) ≡ false = no_type m c in
-    let p = two_lacks (not (is_some (or_known (at m 41) known))) (lacks_type (code_if m.cells 150))
-    tag typed (sym (reject_lack known m) ∙ lack) in
-    let q = neither (at m 41) known p.0 in
-    NoOriginal p.1 q.0 q.1
-
 -- WHAT LACKS A SPELLING
 pub lacks_mean : LacksMean
 lacks_mean known m (Reports50 c) tag down =
-    let lack = lacking (lack_by kinds (rules_for known m) m) (by_rules kinds (rules_for known m) m)
-    tag down in
-    report_case known m tag c
-    (ap (λ rs. lack_by kinds rs m) (sym (rules_of known m 56 c.sound.letter)) ∙ lack)
+    by (lacks_type (code_if m.cells 150)) (report50 m) refl (means_nothing m c)
+    (sym (report_lack m) ∙ ap (λ rs. lack_by kinds rs m) (sym (rules_of known m 56 c.sound.letter))
+    ∙ lacking (lack_by kinds (rules_for known m) m) (by_rules kinds (rules_for known m) m) tag down)
+  where
+    by : (b : Bool) (o : Option Report) → report50 m ≡ o → is_none (report50 m) ≡ b
+        → or_else (lack_if b 150) None ≡ Some tag → Lacks known m tag
+    by true None e f h = let is : 150 ≡ tag = cc in NoSense (sym is) e
+    by true (Some report) e f h = absurd (let no = sym (ap is_none e) ∙ f in cc)
+    by false o e f h = absurd cc
 lacks_mean known m (Rejects50 c) tag down =
-    let lack = lacking (lack_by kinds (rules_for known m) m) (by_rules kinds (rules_for known m) m)
-    tag down in
-    reject_case known m tag c
-    (ap (λ rs. lack_by kinds rs m) (sym (rules_of known m 57 c.sound.letter)) ∙ lack)
+    by (at m 41) known refl refl (lacks_type (code_if m.cells 150)) (no_type m c)
+    (sym (reject_lack known m)
+    ∙ ap (λ rs. lack_by kinds rs m) (sym (rules_of known m 57 c.sound.letter))
+    ∙ lacking (lack_by kinds (rules_for known m) m) (by_rules kinds (rules_for known m) m) tag down)
+  where
+    by : (said other : Said) → at m 41 ≡ said → known ≡ other → (b : Bool) → b ≡ false
+        → or_else (lack_if (not (is_some (or_known said other))) 41)
+        (or_else (lack_if b 150) None) ≡ Some tag → Lacks known m tag
+    by None None e f b typed h = let is : 41 ≡ tag = cc in NoOriginal (sym is) e f
+    by (Some id) other e f false typed h = absurd cc
+    by None (Some id) e f false typed h = absurd cc
+    by said other e f true typed h = absurd cc
 
 -- ---- what does not lack, and what does
 

@@ -1,6 +1,5 @@
-pub mod CodesDown
+pub mod Codes
 pub mod CodeDown
-pub mod CodesSaid
 pub mod DatesDown
 pub mod GoDown
 pub mod KindsDown
@@ -11,7 +10,6 @@ pub mod RowsDown
 pub mod SenseDown
 pub mod SoundDown
 pub mod SourceDown
-pub mod TablesDown
 pub mod Telling
 pub mod ValuesDown
 pub mod Worked

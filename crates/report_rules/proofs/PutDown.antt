@@ -32,7 +32,7 @@ use Rattle.report_rules.specs.Rules.{rules_for}
 use Rattle.report_rules.proofs.CodeDown.{IsKnown, own_goes}
 use Rattle.report_rules.proofs.KindsDown.{are_kinds, lacks_none, reject_own, report_own}
 use Rattle.report_rules.proofs.SourceDown.{known_reject, known_report, read_by}
-use Rattle.report_rules.proofs.TablesDown.{each_made, make}
+use Rattle.report_rules.proofs.SoundDown.{each_made, make}
 
 -- what fields at no fault are read as
 module _ (fields : List Field) where

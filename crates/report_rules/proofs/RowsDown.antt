@@ -1,8 +1,8 @@
 -- What FIX 4.2 says otherwise than FIX 5.0 SP2 has a canonical spelling there: codes, ids, reasons
 -- and texts.
 use Rattle.std.proofs.Common.{◌≡◌, ◌≤◌, ◌<◌, ◌+◌, ◌^◌, ℕ, zero, suc, Bool, true, false, List, []}
-use Rattle.std.proofs.Common.{◌∷◌, ◌++◌, codes, length, take, Option, Some, None, refl, sym, ap}
-use Rattle.std.proofs.Common.{subst, arith, nat_le, lit≤, length-append, unwrap_or, ◌∙◌}
+use Rattle.std.proofs.Common.{◌∷◌, ◌++◌, codes, drop, length, take, Option, Some, None, refl, sym}
+use Rattle.std.proofs.Common.{ap, subst, arith, nat_le, lit≤, length-append, unwrap_or, ◌∙◌}
 use Rattle.std.specs.Prelude.{IsSome, IfSome, Ok, Err, Result, ◌==◌, ◌||◌, if◌then◌else◌, not}
 use Rattle.std.specs.Prelude.{is_some}
 use Rattle.std.specs.Fmt.{decimal, digits}
@@ -10,6 +10,7 @@ use Rattle.std.specs.Str.{bytes_eq}
 use Rattle.std.specs.List.{AllByRecursion, list_any}
 use Rattle.std.proofs.lemmas.Bool.Decides.{nat_tests}
 use Rattle.std.proofs.lemmas.Slice.Eq.{bytes_eq-Decides}
+use Rattle.std.proofs.lemmas.List.{length-take}
 use Rattle.std.proofs.lemmas.Fmt.{digits_decimal, length-decimal-le}
 use Rattle.typed_fields.specs.declared.fault.FieldFault.{FieldFault}
 use Rattle.typed_fields.specs.declared.fault.FieldFault.TheVariants.{Range}
@@ -294,13 +295,10 @@ text_spelled (b ∷ bs) some few =
     let low : nat_le (length (b ∷ bs)) 2048 ≡ true = grind (arith, nat_tests) in
     ap (λ (good : Bool). verdict_of (if good then Ok (Some (b ∷ bs)) else Err Range)) low
 
-take_most : (n : ℕ) (xs : List ℕ) → length (take n xs) ≤ n
-take_most zero xs = lit≤ tt
-take_most (suc n) [] = omega arith
-take_most (suc n) (x ∷ xs) = let rest = take_most n xs in omega (arith, rest)
-
-clear_tail : (b : ℕ) (bs : List ℕ) → IsClear (b ∷ bs) → IsClear bs
-clear_tail b bs h = (either (b == 1) (list_any is_soh bs) h).1
+pub clear_back : (n : ℕ) (bytes : List ℕ) → IsClear bytes → IsClear (drop n bytes)
+clear_back zero bytes h = h
+clear_back (suc n) [] h = h
+clear_back (suc n) (b ∷ bs) h = clear_back n bs (either (b == 1) (list_any is_soh bs) h).1
 
 pub text_said : (before after : List Field) (text : Said) (told : List ℕ) → IsTold 48 told
     → IsSpelled before (Value Text) text
@@ -313,10 +311,10 @@ text_said before after None (b ∷ c ∷ bs) h s =
     let short = h.short in
     optional_said after 58 (Value Text) (Some (c ∷ bs))
     (text_spelled (c ∷ bs) (omega arith) (omega (arith, short)))
-    (clear_tail b (c ∷ bs) h.clear)
+    (clear_back 1 (b ∷ c ∷ bs) h.clear)
 text_said before after (Some text) (b ∷ c ∷ bs) h s =
     let short = h.short in
-    let front = take_most 2000 text in
+    let front = length-take 2000 text in
     let whole = length-append (take 2000 text) (b ∷ c ∷ bs) in
     optional_said after 58 (Value Text) (Some (take 2000 text ++ (b ∷ c ∷ bs)))
     (text_spelled (take 2000 text ++ (b ∷ c ∷ bs)) (omega (arith, whole))

@@ -27,7 +27,7 @@ use Rattle.report_rules.specs.Rules.{Rule, Same, Original, at, down_rules, is_fi
 use Rattle.report_rules.specs.Rules.{lacks_type, rules_for}
 use Rattle.report_rules.specs.Down.{IsOrdinary, KeepsBooks, KeepsSense}
 use Rattle.report_rules.proofs.KindsDown.{are_kinds, report_own, reject_own}
-use Rattle.report_rules.proofs.CodesDown.{exec_kept, id_kept, phase_kept}
+use Rattle.report_rules.proofs.Codes.{exec_kept, id_kept, phase_kept}
 use Rattle.report_rules.proofs.ValuesDown.{other_0, other_2, other_4, reason_kept, report_told}
 use Rattle.report_rules.proofs.ValuesDown.{reject_told, same_maturity, same_terms, terms42, terms50}
 
@@ -114,12 +114,12 @@ module _ (m : Message) where
   terms h = (λ i. terms42 (says (Tag 40) i) (says (Tag 59) i))
       ∙ same_terms (at m 40) (at m 59) h.plain h.close
 
-  report_means : IsOrdinary m → (m.letter == 56) ≡ true
+  report_means : IsOrdinary m → (m.letter == 56) ≡ true → lacks_type (code_if m.cells 150) ≡ false
       → sense42.execution_of w
       ≡ sense50.execution_of m (sense42.exec_of (code_in w.cells 20) (code_in w.cells 150))
-  report_means h is =
+  report_means h is lack =
       let exec_id = (λ i. if unwrap_or (says (Tag 20) i >>= code_of) 0 == 51 then None
-      else Some (unwrap_or (says (Tag 17) i) [])) ∙ id_kept (code_if m.cells 150) (at m 17) in
+      else Some (unwrap_or (says (Tag 17) i) [])) ∙ id_kept (code_if m.cells 150) (at m 17) lack in
       let status = (λ i. sense42.phase_of (unwrap_or (says (Tag 39) i >>= code_of) 0))
       ∙ phase_kept (code_if m.cells 150) (at m 39) in
       let rej = (λ i. says (Tag 103) i >>= number_in) ∙ reason_kept 8 0 (codes "0") other_0 (at m 103) in
@@ -138,7 +138,7 @@ module _ (m : Message) where
       → Some (Executed (sense42.execution_of w))
       ≡ option_map (λ e. Executed (sense50.execution_of m e)) (sense50.exec_of (code_in m.cells 150))
   report_kept h is lack =
-      ap (λ (x : ExecutionReport). Some (Executed x)) (report_means h is)
+      ap (λ (x : ExecutionReport). Some (Executed x)) (report_means h is lack)
       ∙ ap (option_map (λ e. Executed (sense50.execution_of m e))) (sym (exec lack))
 
 -- ---- a cancel reject

@@ -1,54 +1,163 @@
--- What goes down by each kind of rule is sound in the table that goes down.
-use Rattle.std.proofs.Common.{◌≡◌, ℕ, zero, suc, take, List, [], ◌∷◌, Bool, true, false, Option}
-use Rattle.std.proofs.Common.{Some, None, refl, sym, ap, subst, ◌∙◌, codes, option_map, unwrap_or}
-use Rattle.std.specs.Prelude.{IfSome, IsSome, not, drop, ◌||◌, ◌&&◌, ◌==◌, is_some, if◌then◌else◌}
-use Rattle.std.specs.List.{list_any}
-use Rattle.std.proofs.lemmas.Bool.{eqb-true}
-use Rattle.field_groups.specs.Field.{Field, is_soh}
-use Rattle.message_tables.specs.Tables.{Condition, Need, Required, Optional, When, Row, Item, One}
-use Rattle.message_tables.specs.Tables.{Message, Said, Tag, Role, Spells, ◌>>=◌, code_of, code_if}
-use Rattle.message_tables.specs.Tables.{code_in, has_tag, is_listed, is_needed, is_one_of, said_at}
-use Rattle.message_tables.specs.Tables.{value_at}
-use Rattle.message_tables.specs.Content.{content}
-use Rattle.value_kinds.specs.ValueKind.{Code, Known, Id, Text, Reason, code_text, MonthYear, Day}
+-- What goes down by each kind of rule is sound in the table that the rules make of the table of
+-- the source. The tables of reports of FIX 4.2 are what they make of those of FIX 5.0 SP2.
+use Rattle.std.specs.Prelude.{◌≡◌, ℕ, Bool, true, false, List, [], ◌∷◌, Option, Some, IfSome, codes}
+use Rattle.std.specs.Prelude.{IsSome, not, drop, ◌==◌, is_some, if◌then◌else◌}
+use Rattle.std.specs.List.{AllByRecursion}
+use Rattle.std.proofs.Common.{refl, take, None, sym, ap, subst, ◌∙◌, option_map, unwrap_or}
+use Rattle.message_tables.specs.Tables.{Condition, Is, Need, Required, Optional, Lenient, When, Row}
+use Rattle.message_tables.specs.Tables.{RepeatingGroup, Item, One, Role, Message, Said, Tag, Spells}
+use Rattle.message_tables.specs.Tables.{◌>>=◌, code_of, code_if, code_in, has_tag, is_needed}
+use Rattle.message_tables.specs.Tables.{is_one_of, said_at, value_at}
+use Rattle.value_kinds.specs.ValueKind.{Code, Known, Id, Text, Reason, MonthYear, Day, code_text}
 use Rattle.value_kinds.specs.ValueKind.{number_of_two}
-use Rattle.row_values.specs.Kinds.{Kind, Value, DayOf, TimeBeside, judge, is_at_close, row}
-use Rattle.row_values.specs.Amounts.{amount_in}
-use Rattle.std.specs.Str.Parse.{digits_value}
-use Rattle.rows_fix42.specs.Meaning.{is_on_close}
+use Rattle.row_values.specs.Kinds.{Kind, DayOf, MonthBeside, TimeBeside, row, Value, judge}
+use Rattle.row_values.specs.Groups.{parties}
 use Rattle.rows_fix42.specs.Header.{has_day, header as header42, table as table42}
-use Rattle.rows_fix50.specs.Header.{month_by, table as table50}
 use Rattle.reports_fix42.specs.Reports.{is_about_another, is_execution}
-use Rattle.sound_laws.specs.Sound.{IsClear, IsSaid, IsSound}
-use Rattle.sound_laws.proofs.Each.{both, either}
 use Rattle.sound_laws.proofs.ContentValues.{is_alone}
 use Rattle.sound_laws.proofs.RowsSaid.{row_of_tag, same_value, optional_said, needed_said}
-use Rattle.sound_laws.proofs.RowsSaid.{code_said, codes_said, among, is_code_of}
-use Rattle.rule_rows.specs.ByRules.{At, by_rules, lack_by}
-use Rattle.rule_rows.proofs.Items.{has_one, has_row, item_if, turned, can_go, is_value, IsRow}
-use Rattle.rule_rows.proofs.Looked.{AreOwn, IsFound, each_rule}
+use Rattle.sound_laws.proofs.RowsSaid.{code_said}
+use Rattle.rule_rows.specs.ByRules.{has_place, outline_of, At, by_rules, lack_by}
+use Rattle.rule_rows.specs.Rows.{group_at}
+use Rattle.rule_rows.proofs.Items.{has_row, is_value, item_if, item_made, may_go, turned}
+use Rattle.rule_rows.proofs.Items.{turned_made, IsRow, has_one, can_go}
+use Rattle.rule_rows.proofs.Looked.{IsFound, AreOwn, each_rule}
+use Rattle.rule_rows.proofs.Made.{IsMade, made}
+use Rattle.rule_rows.specs.Rules.{By, Moved, Group}
+use Rattle.rule_rows.proofs.Own.{each_with, make_with}
+use Rattle.rule_rows.proofs.Carried.{carried, carried_rows, all_can_go, row_carried, lines_carried}
+use Rattle.rule_rows.proofs.Carried.{is_known_of}
+use Rattle.report_rules.specs.Rules.{Rule, Own, OrKnown, PartyOf, ExecId, TransType, ExecType}
+use Rattle.report_rules.specs.Rules.{OrdStatus, Another, Traded, Within, Told, Month, DayOfDate}
+use Rattle.report_rules.specs.Rules.{OrdType, Time, has, kinds, own_kinds, at, coded, exec_type}
+use Rattle.report_rules.specs.Rules.{is_fill, lacks_type, status_if, told, trans_type, works_on}
+use Rattle.report_rules.specs.Rules.{own_said, party}
+use Rattle.report_rules.specs.Down.{IsId, IsOrdinary}
+use Rattle.report_rules.proofs.Codes.{exec_types, statuses, AreCodes, AreTerms, about_another}
+use Rattle.report_rules.proofs.Codes.{among_if, among_said, are_codes, code_among, executes}
+use Rattle.report_rules.proofs.Codes.{is_beside, so, terms_are, time_among, typed_by}
+use Rattle.report_rules.proofs.RowsDown.{is_other, IsTold, all_told, clear_back, id_said, ids_said}
+use Rattle.report_rules.proofs.RowsDown.{known_said, reason_said, role_id, text_said}
+use Rattle.field_groups.specs.Field.{Field}
+use Rattle.message_tables.specs.Content.{content}
+use Rattle.row_values.specs.Amounts.{amount_in}
+use Rattle.std.specs.Str.Parse.{digits_value}
+use Rattle.rows_fix50.specs.Header.{month_by, table as table50}
+use Rattle.sound_laws.specs.Sound.{IsSaid, IsSound}
 use Rattle.rule_rows.proofs.Said as source
 use Rattle.rule_rows.proofs.Said.{IsSpelled}
 use Rattle.rule_rows.proofs.Sound.{AreGroups, Goes, IsGood, RuleGood, carried_good, has_of, may_fit}
 use Rattle.rule_rows.proofs.Sound.{own_good, sound_made, turned_good, value_is}
-use Rattle.rule_rows.specs.Rules.{By, Moved, Group}
-use Rattle.rule_rows.proofs.Carried.{carried, row_carried, lines_carried, is_known_of, all_can_go}
-use Rattle.report_rules.specs.Rules.{Rule, Own, OrKnown, PartyOf, ExecId, TransType, ExecType}
-use Rattle.report_rules.specs.Rules.{OrdStatus, Another, Traded, Within, Told, Month, DayOfDate}
-use Rattle.report_rules.specs.Rules.{OrdType, Time, at, at_close, coded, exec_type, is_fill, kinds}
-use Rattle.report_rules.specs.Rules.{lacks_type, on_close, status_if, time_down, told, trans_type}
-use Rattle.report_rules.specs.Rules.{works_on, own_kinds, own_said, party}
-use Rattle.report_rules.specs.Down.{IsOrdinary}
-use Rattle.report_rules.proofs.CodesSaid.{AreCodes, are_codes, statuses, time_is_code, time_counts}
-use Rattle.report_rules.proofs.CodesSaid.{but_last, close_is, open_is}
 use Rattle.report_rules.proofs.DatesDown.{day_spelled, day_value, month_spelled, month_there}
 use Rattle.report_rules.proofs.DatesDown.{only_test}
 use Rattle.report_rules.proofs.KindsDown.{are_kinds}
-use Rattle.report_rules.proofs.RowsDown.{IsTold, ids_said, id_said, reason_said, text_said}
-use Rattle.report_rules.proofs.RowsDown.{known_said, role_id, all_told}
-use Rattle.report_rules.proofs.TablesDown.{Fits, GoesDown, by_type, carried_group, each_made}
-use Rattle.report_rules.proofs.TablesDown.{has_rule, items_down, make, month_row, needed, own_row}
-use Rattle.report_rules.proofs.TablesDown.{time_row, type_row, NeedsType}
+
+-- ---- what a rule makes of a row
+
+-- a row that other fields need
+abbrev pub needed : ℕ → Condition → Row Kind → Row Kind
+needed tag condition row = record { tag = tag; kind = row.kind; need = When condition }
+
+-- a group that is carried, in whose lines nothing is passed over
+abbrev pub carried_group : RepeatingGroup Kind → RepeatingGroup Kind
+carried_group group = record {
+  count = group.count;
+  rows = carried_rows false group.rows;
+  skipped = [];
+}
+
+abbrev pub by_type : List ℕ → Need
+by_type listed = When ((Is 150 listed ∷ []) ∷ [])
+
+-- THE ROWS OF FIX 4.2 that say otherwise what FIX 5.0 SP2 says
+abbrev pub own_row : Own → Row Kind
+own_row (PartyOf role to) = row Optional to Id
+own_row ExecId = row Required 17 Id
+own_row TransType = row Required 20 (Code (codes "0123"))
+own_row ExecType = row Required 150 (Code statuses)
+own_row OrdStatus = row Required 39 (Code statuses)
+own_row (Within tag last other) = row Optional tag Reason
+own_row Told = row Optional 58 Text
+own_row Month = row (When has_day) 200 MonthYear
+own_row DayOfDate = record { tag = 205; kind = DayOf 200; need = Optional }
+own_row OrdType = row Optional 40 (Code (codes "12345B"))
+own_row Time = row Optional 59 (Code (codes "0123456"))
+own_row rule = row Required 41 Id
+
+-- rows of the source that are judged beside another one
+abbrev pub month_row : Row Kind
+month_row = record { tag = 200; kind = MonthBeside 541; need = Lenient }
+
+abbrev pub time_row : Row Kind
+time_row = record { tag = 59; kind = TimeBeside 40; need = Lenient }
+
+module _ (items : List (Item Kind)) where
+  abbrev pub has_rule : Own → Bool
+  has_rule rule = has (outline_of items) rule
+
+  -- WHAT A RULE MAKES of a table
+  abbrev pub make_own : Own → Option (Item Kind)
+  make_own (Another tag) = turned (needed tag is_about_another) (row_of_tag tag items)
+  make_own (Traded tag) = turned (needed tag is_execution) (row_of_tag tag items)
+  make_own rule = item_if (has_rule rule) (One (own_row rule))
+
+  each_own : (rule : Own) → IsMade own_kinds items make_own rule
+  each_own (Another tag) = turned_made items (needed tag is_about_another) tag tag (λ row. refl)
+  each_own (Traded tag) = turned_made items (needed tag is_execution) tag tag (λ row. refl)
+  each_own rule = item_made (has_rule rule) (One (own_row rule))
+
+  abbrev pub make : Rule → Option (Item Kind)
+  make rule = make_with own_kinds (carried false) carried_group items make_own rule
+
+  pub each_made : (rule : Rule) → IsMade kinds items make rule
+  each_made rule = each_with own_kinds (carried false) carried_group items make_own
+      (λ to row. refl) (λ group. refl) each_own rule
+
+  abbrev pub items_down : List Rule → List (Item Kind)
+  items_down rules = made kinds items make rules
+
+  -- ---- what a rule asks of the table
+
+  abbrev pub NeedsType : ℕ → List ℕ → Type 0
+  NeedsType tag listed = IfSome (row_of_tag tag items)
+      (λ row. (is_value row.kind ≡ true) × (row.need ≡ by_type listed) × (has_row items 150 ≡ true))
+
+  abbrev pub Fits : Rule → Type 0
+  Fits (Moved from to) = may_go (row_of_tag from items) ≡ true
+  Fits (By (OrKnown known)) = IsRow items (row Optional 41 Id) × IfSome known IsId
+  Fits (By (PartyOf role to)) =
+      has_place (outline_of items) (Role role) ≡ true → group_at 453 items ≡ Some parties
+  Fits (Group count) =
+      IfSome (group_at count items) (λ group. all_can_go group.rows ≡ true)
+  Fits (By ExecId) = IsRow items (row Required 17 Id)
+  Fits (By (Another tag)) = NeedsType tag (codes "GH")
+  Fits (By (Traded tag)) = NeedsType tag (codes "FG")
+  Fits (By (Within tag last other)) =
+      IsRow items (row Optional tag Reason) × (is_other other ≡ true)
+  Fits (By Told) = IsRow items (row Optional 58 Text) × IsRow items (row Optional 103 Reason)
+      × IsRow items (row Optional 378 Reason) × IsRow items (row Optional 102 Reason)
+  Fits (By Month) = IsRow items month_row
+  Fits rule = Unit {0}
+
+-- A TABLE GOES DOWN: it fits each rule, and what values are judged by has one place.
+pub record GoesDown (all : List Rule) (items : List (Item Kind)) : Type 0 where
+  pub fits : AllByRecursion (Fits items) all
+  pub exec_type : IsRow items (row Required 150 (Known exec_types))
+  pub status : IsRow items (row Required 39 (Known statuses))
+  pub date : IsRow items (row Optional 541 Day)
+  pub type : IsRow items (row Lenient 40 (Code (codes "1234")))
+  pub time : IsRow items time_row
+  pub both : has_row items 150 ≡ true → has_row items 39 ≡ true
+  pub typed : has_row items 150 ≡ true → (is_alone 150 items ≡ true)
+      × (is_alone 20 (items_down items all) ≡ true) × (is_alone 150 (items_down items all) ≡ true)
+  pub timed : has_row items 59 ≡ true → is_alone 40 items ≡ true
+  pub dates : has_row items 541 ≡ has_row items 200
+  pub dated : has_row items 200 ≡ true → (is_alone 541 items ≡ true)
+      × (is_alone 205 (items_down items all) ≡ true) × (is_alone 200 (items_down items all) ≡ true)
+  pub types : IsFound kinds all (By TransType)
+  pub execs : IsFound kinds all (By ExecType)
+  pub months : IsFound kinds all (By Month)
+  pub days : IsFound kinds all (By DayOfDate)
 
 -- a value that other fields need
 same_kind : (before after : List Field) (kind : Kind) → is_value kind ≡ true → (said : Said)
@@ -56,30 +165,6 @@ same_kind : (before after : List Field) (kind : Kind) → is_value kind ≡ true
     → IfSome said (λ text. judge after kind text ≡ Spells text)
 same_kind before after (Value kind) v said h = same_value before after kind said h
 same_kind before after kind v said h = absurd cc
-
--- ---- needs
-
--- a code that stands there
-listed_at : (listed : List ℕ) (value : Said) (code : ℕ) → value ≡ Some (code ∷ [])
-    → is_listed listed value ≡ true → is_one_of listed code ≡ true
-listed_at listed value code at h = sym (ap (is_listed listed) at) ∙ h
-
-type_needs : (fields : List Field) (listed : List ℕ) (code : ℕ)
-    → value_at 150 fields ≡ Some (code ∷ []) → is_one_of listed code ≡ true
-    → is_needed (by_type listed) fields ≡ true
-type_needs fields listed code at h =
-    ap (λ (v : Said). (is_listed listed v && true) || false) at
-    ∙ ap (λ (b : Bool). (b && true) || false) h
-
--- a trade that is new, or a correction
-execution_is : {X : Type 0} (new fill correct : Bool) → (new ≡ true → fill ≡ true → X)
-    → (correct ≡ true → X)
-    → ((new && (fill && true)) || ((correct && true) || false)) ≡ true → X
-execution_is true true correct one two h = one refl refl
-execution_is true false true one two h = two refl
-execution_is true false false one two h = absurd cc
-execution_is false fill true one two h = two refl
-execution_is false fill false one two h = absurd cc
 
 -- ---- a sound message of a table that goes down
 
@@ -122,85 +207,61 @@ module _ (all : List Rule) (own : AreOwn kinds all) (letter : ℕ) (items : List
 
     -- ---- what the tables ask of a message
 
-    closed_by : (type time : Said) → (has_row items 59 ≡ true → value_at 40 before ≡ type)
-        → IsSpelled before (TimeBeside 40) time → (has_row items 59 ≡ false → time ≡ None)
-        → IfSome (type >>= code_of) (λ c. IfSome (time >>= code_of)
-        (λ t. (t == 55) ≡ at_close (Some c) (Some t)))
-    closed_by type None at h none = any (type >>= code_of)
+    no_row : (tag : ℕ) → has_row items tag ≡ false → at m tag ≡ None
+    no_row tag e = source.no_row (table50 letter items) m sound tag (by (row_of_tag tag items) e)
       where
-        any : (o : Option ℕ) → IfSome o (λ c. Unit {0})
-        any None = tt
-        any (Some c) = tt
-    closed_by type (Some []) at h none = absurd (let k = time_is_code before [] h.spelled in cc)
-    closed_by type (Some (a ∷ b ∷ text)) at h none =
-        absurd (let k = time_is_code before (a ∷ b ∷ text) h.spelled in cc)
-    closed_by type (Some (t ∷ [])) at h none = by (has_row items 59) refl
-      where
-        by : (b : Bool) → has_row items 59 ≡ b → IfSome (type >>= code_of)
-            (λ c. (t == 55) ≡ at_close (Some c) (Some t))
-        by true e =
-            let counts = time_counts before t h.spelled in
-            close_is type t (ap (λ (v : Said). not (is_at_close (t ∷ []))
-            || is_listed (codes "12") v) (sym (at e)) ∙ counts.beside)
-        by false e = absurd (let k = none e in cc)
+        by : (o : Option (Row Kind)) → is_some o ≡ false → o ≡ None
+        by None e = refl
+        by (Some row) e = absurd cc
 
-    plain_by : (type : Said) → IsSpelled before (Value (Code (codes "1234"))) type
-        → is_on_close (type >>= code_of) ≡ false
-    plain_by None h = refl
-    plain_by (Some text) h =
-        let t = is_code_of before (codes "1234") text h.spelled in
-        let P : List ℕ → Type 0 = λ x. is_on_close (code_of x) ≡ false in
-        subst P (sym t.is) (open_type t.code t.listed)
+    terms : AreTerms (at m 40) (at m 59)
+    terms = by (has_row items 59) refl
       where
-        open_type : (c : ℕ) → is_one_of (codes "1234") c ≡ true → (c == 53 || c == 66) ≡ false
-        open_type c h = by (c == 53) (c == 66) refl refl
-          where
-            by : (a b : Bool) → (c == 53) ≡ a → (c == 66) ≡ b → (a || b) ≡ false
-            by true b e f = absurd (
-                let P : ℕ → Type 0 = λ x. is_one_of (codes "1234") x ≡ true in
-                let k : false ≡ true = subst P (eqb-true c 53 e) h in cc)
-            by false true e f = absurd (
-                let P : ℕ → Type 0 = λ x. is_one_of (codes "1234") x ≡ true in
-                let k : false ≡ true = subst P (eqb-true c 66 f) h in cc)
-            by false false e f = refl
+        type : among_if (codes "1234") (at m 40) ≡ true
+        type = code_among before (codes "1234") (at m 40)
+            (spelled (row Lenient 40 (Code (codes "1234"))) goes.type).spelled
+
+        by : (b : Bool) → has_row items 59 ≡ b → AreTerms (at m 40) (at m 59)
+        by true e =
+            let time = time_among before (at m 59) (spelled time_row goes.time).spelled in
+            let P : Said → Type 0 = λ v. is_beside v (at m 59) ≡ true in
+            terms_are (at m 40) (at m 59) type time.0
+            (subst P (value_before 40 (goes.timed e)) time.1)
+        by false e =
+            let P : Said → Type 0 = λ v. AreTerms (at m 40) v in
+            subst P (sym (no_row 59 e)) (terms_are (at m 40) None type refl refl)
 
     days_by : (date : Said) → IsSpelled before (Value Day) date
         → IfSome date (λ d. number_of_two (drop 6 d) ≡ digits_value 10 (drop 6 d))
     days_by None h = tt
     days_by (Some date) h = day_value before date h.spelled
 
-    pub ordinary_by : IsRow items (row Optional 541 Day) → IsRow items (type_row items)
-        → IsRow items (time_row items) → ((m.letter == 56) ≡ true → row_of_tag 102 items ≡ None)
-        → ((m.letter == 57) ≡ true
-        → (row_of_tag 103 items ≡ None) × (row_of_tag 378 items ≡ None)) → IsOrdinary m
-    ordinary_by day type time report reject = record {
-      day = days_by (at m 541) (spelled (row Optional 541 Day) day);
-      plain = plain_by (at m 40) (spelled (type_row items) type);
-      close = closed_by (at m 40) (at m 59) (λ has. value_before 40 (goes.timed has))
-          (spelled (time_row items) time) (λ e. no_row 59 (none_of (row_of_tag 59 items) e));
-      report = λ h. no_row 102 (report h);
-      reject = λ h. (no_row 103 (reject h).0, no_row 378 (reject h).1);
+    pub ordinary_by : ((letter == 56) ≡ true → has_row items 102 ≡ false)
+        → ((letter == 57) ≡ true → (has_row items 103 ≡ false) × (has_row items 378 ≡ false))
+        → IsOrdinary m
+    ordinary_by report reject = record {
+      day = days_by (at m 541) (spelled (row Optional 541 Day) goes.date);
+      plain = terms.plain;
+      close = terms.close;
+      report = λ h. no_row 102 (report (sym (ap (λ (l : ℕ). l == 56) sound.letter) ∙ h));
+      reject = λ h. let none = reject (sym (ap (λ (l : ℕ). l == 57) sound.letter) ∙ h) in
+          (no_row 103 none.0, no_row 378 none.1);
     }
-      where
-        no_row : (tag : ℕ) → row_of_tag tag items ≡ None → at m tag ≡ None
-        no_row tag e = source.no_row (table50 letter items) m sound tag e
-
-        none_of : (o : Option (Row Kind)) → is_some o ≡ false → o ≡ None
-        none_of None e = refl
-        none_of (Some row) e = absurd cc
 
     -- ---- codes
+
+    abbrev status : ℕ
+    status = code_in m.cells 39
+
+    abbrev fills : Bool
+    fills = is_fill status (amount_in m.cells 151).units
 
     record IsMapped : Type 0 where
       venue : ℕ
       trans : ℕ
       at_venue : at m 150 ≡ Some (code_text venue)
       mapped : trans_type venue ≡ Some trans
-
-    record HasStatus : Type 0 where
-      status : ℕ
-      at_status : at m 39 ≡ Some (code_text status)
-      listed : is_one_of statuses status ≡ true
+      are : AreCodes venue trans (exec_type venue status fills)
 
     known_there : (tag : ℕ) (listed : List ℕ) → IsRow items (row Required tag (Known listed))
         → has_row items tag ≡ true
@@ -217,57 +278,44 @@ module _ (all : List Rule) (own : AreOwn kinds all) (letter : ℕ) (items : List
             (t.code, ap (λ (x : List ℕ). Some x) t.is, t.listed)
 
     module _ (typed : lacks_type (code_if m.cells 150) ≡ false) where
-      mapped_by : has_row items 150 ≡ true → IsMapped
-      mapped_by has =
-          let k = known_there 150 _ goes.exec_type has in
-          let P : Said → Type 0 = λ s. lacks_type (s >>= code_of) ≡ false in
-          by k.0 k.1 (trans_type k.0) refl (subst P k.1 typed)
-        where
-          by : (venue : ℕ) → at m 150 ≡ Some (code_text venue) → (o : Option ℕ)
-              → trans_type venue ≡ o → not (is_some (trans_type venue)) ≡ false → IsMapped
-          by venue e (Some trans) f h =
-              record { venue = venue; trans = trans; at_venue = e; mapped = f }
-          by venue e None f h = absurd (let k = sym (ap (λ (o : Option ℕ). not (is_some o)) f) ∙ h in cc)
-
-      status_by : has_row items 39 ≡ true → HasStatus
-      status_by has =
-          let k = known_there 39 _ goes.status has in
-          record { status = k.0; at_status = k.1; listed = k.2 }
-
-      -- the codes of FIX 4.2
       module _ (has : has_row items 150 ≡ true) (groups : AreGroups g) where
+        -- the codes of FIX 4.2
         x : IsMapped
-        x = mapped_by has
+        x =
+            let venue = known_there 150 exec_types goes.exec_type has in
+            let known = known_there 39 statuses goes.status (goes.both has) in
+            let P : Said → Type 0 = λ s. lacks_type (s >>= code_of) ≡ false in
+            let Q : Said → Type 0 = λ s. is_one_of statuses (unwrap_or (s >>= code_of) 0) ≡ true in
+            by venue.0 venue.1 venue.2 (trans_type venue.0) refl (subst P venue.1 typed)
+            (subst Q (sym known.1) known.2)
+          where
+            by : (venue : ℕ) → at m 150 ≡ Some (code_text venue) → is_one_of exec_types venue ≡ true
+                → (o : Option ℕ) → trans_type venue ≡ o → not (is_some o) ≡ false
+                → is_one_of statuses status ≡ true → IsMapped
+            by venue e listed (Some trans) f h k = record {
+              venue = venue;
+              trans = trans;
+              at_venue = e;
+              mapped = f;
+              are = are_codes status fills k venue trans listed f;
+            }
+            by venue e listed None f h k = absurd cc
 
-        s : HasStatus
-        s = status_by (goes.both has)
+        abbrev exec : ℕ
+        exec = exec_type x.venue status fills
 
         trans_said : own_said m TransType ≡ Some (code_text x.trans)
         trans_said = ap (λ (v : Said). coded ((v >>= code_of) >>= trans_type)) x.at_venue
             ∙ ap coded x.mapped
 
-        exec_said : own_said m ExecType ≡ Some (code_text (exec_type x.venue (code_in m.cells 39)
-            (is_fill (code_in m.cells 39) (amount_in m.cells 151).units)))
-        exec_said = ap (λ (v : Said). option_map (λ code. code_text (exec_type code (code_in m.cells 39)
-            (is_fill (code_in m.cells 39) (amount_in m.cells 151).units))) (v >>= code_of)) x.at_venue
-
-        status_listed : is_one_of statuses (code_in m.cells 39) ≡ true
-        status_listed =
-            ap (λ (v : Said). is_one_of statuses (unwrap_or (v >>= code_of) 0)) s.at_status ∙ s.listed
-
-        all_codes : AreCodes x.venue x.trans (exec_type x.venue (code_in m.cells 39)
-            (is_fill (code_in m.cells 39) (amount_in m.cells 151).units))
-        all_codes =
-            let P : Option ℕ → Type 0 = λ o. IfSome o (λ t. AreCodes x.venue t (exec_type x.venue
-            (code_in m.cells 39) (is_fill (code_in m.cells 39) (amount_in m.cells 151).units))) in
-            subst P x.mapped (are_codes x.venue (code_in m.cells 39)
-            (is_fill (code_in m.cells 39) (amount_in m.cells 151).units) status_listed)
+        exec_said : own_said m ExecType ≡ Some (code_text exec)
+        exec_said = ap (λ (v : Said).
+            option_map (λ code. code_text (exec_type code status fills)) (v >>= code_of)) x.at_venue
 
         at20 : value_at 20 after ≡ Some (code_text x.trans)
         at20 = value_is g groups (By TransType) 20 refl goes.types (goes.typed has).1 ∙ trans_said
 
-        at150 : value_at 150 after ≡ Some (code_text (exec_type x.venue (code_in m.cells 39)
-            (is_fill (code_in m.cells 39) (amount_in m.cells 151).units)))
+        at150 : value_at 150 after ≡ Some (code_text exec)
         at150 = value_is g groups (By ExecType) 150 refl goes.execs (goes.typed has).2 ∙ exec_said
 
         from150 : value_at 150 before ≡ Some (code_text x.venue)
@@ -275,19 +323,13 @@ module _ (all : List Rule) (own : AreOwn kinds all) (letter : ℕ) (items : List
 
         needs_another : is_needed (When is_about_another) after ≡ true
             → is_needed (by_type (codes "GH")) before ≡ true
-        needs_another n = type_needs before (codes "GH") x.venue from150 (all_codes.another
-            (listed_at (codes "12") (value_at 20 after) x.trans at20
-            (only_test (is_listed (codes "12") (value_at 20 after)) n)))
+        needs_another n = ap (typed_by (codes "GH")) from150
+            ∙ so _ _ x.are.needs_another (sym (ap about_another at20) ∙ n)
 
         needs_trade : is_needed (When is_execution) after ≡ true
             → is_needed (by_type (codes "FG")) before ≡ true
-        needs_trade n = type_needs before (codes "FG") x.venue from150
-            (execution_is (is_listed (codes "0") (value_at 20 after))
-            (is_listed (codes "12") (value_at 150 after)) (is_listed (codes "2") (value_at 20 after))
-            (λ new filled. all_codes.opens (listed_at (codes "0") (value_at 20 after) x.trans at20 new)
-            (listed_at (codes "12") (value_at 150 after) _ at150 filled))
-            (λ correct. all_codes.corrects
-            (listed_at (codes "2") (value_at 20 after) x.trans at20 correct)) n)
+        needs_trade n = ap (typed_by (codes "FG")) from150
+            ∙ so _ _ x.are.needs_trade (sym (λ i. executes (at20 i) (at150 i)) ∙ n)
 
       -- a row that other fields need
       needed_good : (rule : Own) (tag : ℕ) (condition : Condition) (listed : List ℕ)
@@ -314,58 +356,9 @@ module _ (all : List Rule) (own : AreOwn kinds all) (letter : ℕ) (items : List
               (if b then Some (codes "5") else at m 39)
           by true = code_said after 39 statuses 53 refl refl
           by false =
-              let st = status_by has in
+              let known = known_there 39 statuses goes.status has in
               let P : Said → Type 0 = λ v. IsSaid judge after (row Required 39 (Code statuses)) v in
-              subst P (sym st.at_status) (code_said after 39 statuses st.status refl st.listed)
-
-      -- ---- OrdType and TimeInForce
-
-      type_case : (type : Said) → IsSpelled before (Value (Code (codes "1234"))) type → (b : Bool)
-          → IsSaid judge after (row Optional 40 (Code (codes "12345B")))
-          (if b then on_close (type >>= code_of) else type)
-      type_case type h true = closed (type >>= code_of)
-        where
-          closed : (c : Option ℕ)
-              → IsSaid judge after (row Optional 40 (Code (codes "12345B"))) (on_close c)
-          closed None = optional_said after 40 (Value (Code (codes "12345B"))) None tt tt
-          closed (Some c) = by (c == 49)
-            where
-              by : (market : Bool) → IsSaid judge after (row Optional 40 (Code (codes "12345B")))
-                  (if market then Some (codes "5") else Some (codes "B"))
-              by true = codes_said after 40 (codes "12345B") (Some 53) refl refl
-              by false = codes_said after 40 (codes "12345B") (Some 66) refl refl
-      type_case None h false = codes_said after 40 (codes "12345B") None refl tt
-      type_case (Some text) h false =
-          let t = is_code_of before (codes "1234") text h.spelled in
-          let P : List ℕ → Type 0 =
-          λ v. IsSaid judge after (row Optional 40 (Code (codes "12345B"))) (Some v) in
-          subst P (sym t.is) (codes_said after 40 (codes "12345B") (Some t.code) refl
-          (among (codes "1234") (codes "12345B") t.code refl t.listed))
-
-      time_case : (type time : Said) → value_at 40 before ≡ type
-          → IsSpelled before (TimeBeside 40) time
-          → IsSaid judge after (row Optional 59 (Code (codes "0123456"))) (time_down type time)
-      time_case type None at h = by (at_close (type >>= code_of) None)
-        where
-          by : (b : Bool) → IsSaid judge after (row Optional 59 (Code (codes "0123456")))
-              (if b then None else None)
-          by true = codes_said after 59 (codes "0123456") None refl tt
-          by false = codes_said after 59 (codes "0123456") None refl tt
-      time_case type (Some []) at h = absurd (let k = time_is_code before [] h.spelled in cc)
-      time_case type (Some (a ∷ b ∷ text)) at h =
-          absurd (let k = time_is_code before (a ∷ b ∷ text) h.spelled in cc)
-      time_case type (Some (t ∷ [])) at h = by (at_close (type >>= code_of) (Some t)) refl
-        where
-          by : (b : Bool) → at_close (type >>= code_of) (Some t) ≡ b
-              → IsSaid judge after (row Optional 59 (Code (codes "0123456")))
-              (if b then None else Some (t ∷ []))
-          by true e = codes_said after 59 (codes "0123456") None refl tt
-          by false e =
-              let counts = time_counts before t h.spelled in
-              let beside = ap (λ (v : Said). not (is_at_close (t ∷ [])) || is_listed (codes "12") v)
-              (sym at) ∙ counts.beside in
-              codes_said after 59 (codes "0123456") (Some t) refl
-              (but_last (codes "0123456") 55 t counts.listed (open_is type t beside e))
+              subst P (sym known.1) (code_said after 39 statuses known.0 refl known.2)
 
       -- ---- texts and dates
 
@@ -373,12 +366,6 @@ module _ (all : List Rule) (own : AreOwn kinds all) (letter : ℕ) (items : List
       told_case fit =
           all_told before m (spelled (row Optional 103 Reason) fit.1)
           (spelled (row Optional 378 Reason) fit.2) (spelled (row Optional 102 Reason) fit.3)
-
-      clear_back : (n : ℕ) (bytes : List ℕ) → IsClear bytes → IsClear (drop n bytes)
-      clear_back zero bytes h = h
-      clear_back (suc n) [] h = h
-      clear_back (suc n) (b ∷ bs) h =
-          clear_back n bs (either (b == 1) (list_any is_soh bs) h).1
 
       day_case : AreGroups g → (date : Said) → at m 541 ≡ date → has_row items 200 ≡ true
           → IsSpelled before (Value Day) date
@@ -395,8 +382,8 @@ module _ (all : List Rule) (own : AreOwn kinds all) (letter : ℕ) (items : List
       month_case : AreGroups g → Fits items (By Month) → has_row items 200 ≡ true
           → IsSaid judge after (row (When has_day) 200 MonthYear) (at m 200)
       month_case groups fit has =
-          let d = spelled (row Optional 541 Day) fit.1 in
-          let mo = spelled (month_row items) fit.0 in
+          let d = spelled (row Optional 541 Day) goes.date in
+          let mo = spelled month_row fit in
           needed_said after has_day 200 (Value MonthYear) (at m 200)
           (λ n. month_there after (at m 541) (at m 200) month
           (value_is g groups (By DayOfDate) 205 refl goes.days (goes.dated has).1)
@@ -441,12 +428,12 @@ module _ (all : List Rule) (own : AreOwn kinds all) (letter : ℕ) (items : List
           let has = has_of g 150 has in
           let P : Said → Type 0 = λ said. IsSaid judge after (own_row TransType) said in
           subst P (sym (trans_said has groups)) (code_said after 20 (codes "0123")
-          (x has groups).trans refl (all_codes has groups).trans_type))
+          (x has groups).trans refl (x has groups).are.trans_type))
       rule_down (By ExecType) found fit lack = own_case ExecType refl found (λ has groups.
           let has = has_of g 150 has in
           let P : Said → Type 0 = λ said. IsSaid judge after (own_row ExecType) said in
           subst P (sym (exec_said has groups))
-          (code_said after 150 statuses _ refl (all_codes has groups).exec_type))
+          (code_said after 150 statuses _ refl (x has groups).are.exec_type))
       rule_down (By OrdStatus) found fit lack =
           own_case OrdStatus refl found (λ has groups. status_case (has_of g 39 has))
       rule_down (By (Another tag)) found fit lack = needed_good (Another tag) tag is_about_another
@@ -464,13 +451,11 @@ module _ (all : List Rule) (own : AreOwn kinds all) (letter : ℕ) (items : List
           own_case Month refl found (λ has groups. month_case groups fit (has_of g 200 has))
       rule_down (By DayOfDate) found fit lack = own_case DayOfDate refl found (λ has groups.
           day_case groups (at m 541) refl (sym goes.dates ∙ has_of g 541 has)
-          (spelled (row Optional 541 Day) fit))
+          (spelled (row Optional 541 Day) goes.date))
       rule_down (By OrdType) found fit lack = own_case OrdType refl found (λ has groups.
-          type_case (at m 40) (spelled (type_row items) fit)
-          (at_close (at m 40 >>= code_of) (at m 59 >>= code_of)))
+          among_said after 40 (codes "12345B") (own_said m OrdType) refl terms.type_listed)
       rule_down (By Time) found fit lack = own_case Time refl found (λ has groups.
-          time_case (at m 40) (at m 59) (value_before 40 (goes.timed (has_of g 59 has)))
-          (spelled (time_row items) fit.0))
+          among_said after 59 (codes "0123456") (own_said m Time) refl terms.time_listed)
 
       -- WHAT GOES DOWN IS SOUND in the table that goes down.
       pub sound_down : lack_by kinds all m ≡ None

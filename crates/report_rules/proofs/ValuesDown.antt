@@ -1,9 +1,9 @@
 -- What FIX 4.2 says otherwise than FIX 5.0 SP2 means the same there.
-use Rattle.std.proofs.Common.{◌≡◌, ℕ, Bool, true, false, ◌==◌, ◌||◌, List, [], ◌∷◌, ◌++◌, Option}
-use Rattle.std.proofs.Common.{Some, None, refl, sym, ap, subst, ◌∙◌, if◌then◌else◌, codes}
+use Rattle.std.proofs.Common.{◌≡◌, ℕ, Bool, true, false, ◌==◌, ◌&&◌, ◌||◌, List, ◌++◌, Option}
+use Rattle.std.proofs.Common.{Some, None, refl, ap, ◌∙◌, if◌then◌else◌, codes}
 use Rattle.std.proofs.Common.{option_map, nat_le}
 use Rattle.std.specs.Prelude.{IfSome, drop}
-use Rattle.std.proofs.lemmas.Bool.{eqb-true}
+use Rattle.std.proofs.lemmas.List.{append-nil}
 use Rattle.std.specs.Str.Parse.{digits_value}
 use Rattle.value_kinds.specs.ValueKind.{number_of_two}
 use Rattle.typed_fields.specs.Digits.{number_of, are_digits}
@@ -13,7 +13,7 @@ use Rattle.order_meaning.specs.Request.{OrderType, MarketOnClose, LimitOnClose}
 use Rattle.rows_fix42.specs.Meaning as meaning42
 use Rattle.rows_fix50.specs.Meaning as meaning50
 use Rattle.reports_fix50.specs.Sense.{reason_within, reason_told, telling}
-use Rattle.sound_laws.proofs.Each.{both, either}
+use Rattle.sound_laws.proofs.Each.{either}
 use Rattle.report_rules.specs.Rules.{at_close, on_close, reason_down, time_down, type_down, within}
 
 -- ---- reasons
@@ -48,10 +48,6 @@ other_2 = refl
 
 -- ---- texts
 
-joined_none : (xs : List ℕ) → xs ++ [] ≡ xs
-joined_none [] = refl
-joined_none (x ∷ xs) = ap (◌∷◌ x) (joined_none xs)
-
 -- an execution report has no reason of a cancel reject
 pub report_told : (text rej restate cxl : Said) → cxl ≡ None
     → telling text (reason_told 103 8 (rej >>= number_in)
@@ -62,7 +58,7 @@ report_told text rej restate cxl none =
     ap (λ (c : Said). telling text (reason_told 103 8 (rej >>= number_in)
     ++ (reason_told 378 5 (restate >>= number_in) ++ reason_told 102 3 (c >>= number_in)))) none
     ∙ ap (λ (t : List ℕ). telling text (reason_told 103 8 (rej >>= number_in) ++ t))
-    (joined_none (reason_told 378 5 (restate >>= number_in)))
+    (append-nil (reason_told 378 5 (restate >>= number_in)))
 
 -- and a cancel reject has none of an execution report
 pub reject_told : (text rej restate cxl : Said) → rej ≡ None → restate ≡ None
@@ -98,77 +94,44 @@ terms42 type time = (
 )
 
 -- what is not on close is the same type in both
-plain_type : (c : ℕ) → (c == 53 || c == 66) ≡ false
+same_type : (c : ℕ) → (c == 53 || c == 66) ≡ false
     → meaning42.order_type_of c ≡ (meaning50.terms_of (Some c) None).0
-plain_type c h = let p = either (c == 53) (c == 66) h in rw (p.0, p.1) refl
+same_type c h = let p = either (c == 53) (c == 66) h in rw (p.0, p.1) refl
 
-plain_time : (t : Option ℕ) → meaning42.time_of false t ≡ t
-plain_time None = refl
-plain_time (Some t) = refl
-
-at_the_close : (c : ℕ) → (c == 49 || c == 50) ≡ true
-    → terms42 (on_close (Some c)) None ≡ meaning50.terms_of (Some c) (Some 55)
-at_the_close c h = by (c == 49) (c == 50) h
+by_codes : (c time : Option ℕ) → meaning42.is_on_close c ≡ false
+    → IfSome c (λ code. IfSome time (λ t. (t == 55) ≡ at_close (Some code) (Some t)))
+    → ◌≡◌ {A = Terms} (if at_close c time then terms42 (on_close c) None
+    else (c >>= meaning42.order_type_of, meaning42.time_of (meaning42.is_on_close c) time))
+    (meaning50.terms_of c time)
+by_codes None None plain close = refl
+by_codes None (Some t) plain close = refl
+by_codes (Some c) None plain close = λ i. (same_type c plain i, None)
+by_codes (Some c) (Some t) plain close = by (t == 55) (c == 49) (c == 50) close
   where
-    by : (market limit : Bool) → (market || limit) ≡ true
-        → terms42 (if market then Some (codes "5") else Some (codes "B")) None
-        ≡ ((if market then Some MarketOnClose else (if limit then Some LimitOnClose else None)), None)
-    by true limit h = refl
-    by false true h = refl
-    by false false h = absurd cc
-
--- not on close, nor at the close
-open_terms : (c : ℕ) (time : Option ℕ) → (c == 53 || c == 66) ≡ false
-    → IfSome time (λ t. (t == 55) ≡ false)
-    → ◌≡◌ {A = Terms}
-    (meaning42.order_type_of c, meaning42.time_of (meaning42.is_on_close (Some c)) time)
-    (meaning50.terms_of (Some c) time)
-open_terms c None plain other = λ i. (plain_type c plain i, None)
-open_terms c (Some t) plain other =
-    (λ i. (plain_type c plain i, meaning42.time_of (plain i) (Some t))) ∙ rw other refl
+    by : (seven market limit : Bool) → seven ≡ (seven && (market || limit))
+        → ◌≡◌ {A = Terms} (if seven && (market || limit)
+        then terms42 (if market then Some (codes "5") else Some (codes "B")) None
+        else (meaning42.order_type_of c, meaning42.time_of (c == 53 || c == 66) (Some t)))
+        (if seven
+        then (
+          (if market then Some MarketOnClose else (if limit then Some LimitOnClose else None)),
+          None,
+        )
+        else ((meaning50.terms_of (Some c) None).0, Some t))
+    by true true limit h = refl
+    by true false true h = refl
+    by true false false h = absurd cc
+    by false market limit h = λ i. (same_type c plain i, meaning42.time_of (plain i) (Some t))
 
 pub same_terms : (type time : Said) → meaning42.is_on_close (type >>= code_of) ≡ false
     → IfSome (type >>= code_of) (λ c. IfSome (time >>= code_of)
     (λ t. (t == 55) ≡ at_close (Some c) (Some t)))
     → terms42 (type_down type time) (time_down type time) ≡ terms50 type time
-same_terms type time plain close = by (type >>= code_of) refl plain close
+same_terms type time plain close = by (at_close (type >>= code_of) (time >>= code_of))
+    ∙ by_codes (type >>= code_of) (time >>= code_of) plain close
   where
-    by : (c : Option ℕ) → (type >>= code_of) ≡ c → meaning42.is_on_close c ≡ false
-        → IfSome c (λ code. IfSome (time >>= code_of) (λ t. (t == 55) ≡ at_close (Some code) (Some t)))
-        → terms42 (if at_close c (time >>= code_of) then on_close c else type)
-        (if at_close c (time >>= code_of) then None else time)
-        ≡ meaning50.terms_of c (time >>= code_of)
-    by None e plain close =
-        (λ i. (
-          e i >>= meaning42.order_type_of,
-          meaning42.time_of (meaning42.is_on_close (e i)) (time >>= code_of),
-        ))
-        ∙ (λ i. (None, plain_time (time >>= code_of) i))
-    by (Some c) e plain close = timed (time >>= code_of) refl close
-      where
-        timed : (t : Option ℕ) → (time >>= code_of) ≡ t
-            → IfSome t (λ x. (x == 55) ≡ at_close (Some c) (Some x))
-            → terms42 (if at_close (Some c) t then on_close (Some c) else type)
-            (if at_close (Some c) t then None else time) ≡ meaning50.terms_of (Some c) t
-        timed None f close =
-            (λ i. (
-              e i >>= meaning42.order_type_of,
-              meaning42.time_of (meaning42.is_on_close (e i)) (f i),
-            ))
-            ∙ open_terms c None plain tt
-        timed (Some t) f close = test (at_close (Some c) (Some t)) refl
-          where
-            test : (b : Bool) → at_close (Some c) (Some t) ≡ b
-                → terms42 (if b then on_close (Some c) else type) (if b then None else time)
-                ≡ meaning50.terms_of (Some c) (Some t)
-            test true g =
-                let p = both (t == 55) (c == 49 || c == 50) g in
-                let P : ℕ → Type 0 = λ x. terms42 (on_close (Some c)) None
-                ≡ meaning50.terms_of (Some c) (Some x) in
-                subst P (sym (eqb-true t 55 p.0)) (at_the_close c p.1)
-            test false g =
-                (λ i. (
-                  e i >>= meaning42.order_type_of,
-                  meaning42.time_of (meaning42.is_on_close (e i)) (f i),
-                ))
-                ∙ open_terms c (Some t) plain (close ∙ g)
+    by : (b : Bool)
+        → terms42 (if b then on_close (type >>= code_of) else type) (if b then None else time)
+        ≡ (if b then terms42 (on_close (type >>= code_of)) None else terms42 type time)
+    by true = refl
+    by false = refl

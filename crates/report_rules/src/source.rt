@@ -1,10 +1,13 @@
 //! What the rules read of a report of FIX 5.0 SP2.
 
-ghost use Rattle.std.specs.Prelude.{◌≡◌, ◌==◌};
+ghost use Rattle.std.specs.Prelude.{◌≡◌, ◌==◌, unwrap_or};
 ghost use Rattle.std.specs.List.{find};
 ghost use Rattle.std.specs.Option.{option_map};
 ghost use Rattle.rows_fix50.specs.Meaning.{id_of};
-ghost use Rattle.report_rules.specs.CodeRules.{reject_codes, report_codes};
+ghost use Rattle.message_tables.specs.Tables.{value_at};
+ghost use Rattle.rule_rows.specs.Texts.{decimal_of};
+ghost use Rattle.report_rules.specs.CodeRules.{reject_codes, report_codes, zero};
+ghost use Rattle.report_rules.specs.Rules.{is_fill};
 
 use crate::mapping::is_fill;
 use field_groups::Fields;
@@ -36,16 +39,30 @@ pub(crate) struct Codes {
     pub(crate) time: Option<u8>,
 }
 
+/// Whether a trade fills its order, by OrdStatus(39) and, where that does not tell, LeavesQty(151).
+fn fills(fields: &Fields<'_>, status: u8) -> bool
+    ensures { result ≡ is_fill status
+        (unwrap_or (decimal_of (value_at 151 fields.now)) zero).units }
+{
+    if status == b'6' || status == b'E' {
+        is_fill(
+            status,
+            decimal_of(fields.value(151)).unwrap_or(Dec { units: 0 }),
+        )
+    } else {
+        status == b'2'
+    }
+}
+
 /// Reads the codes of an execution report.
 pub(crate) fn report_codes(fields: &Fields<'_>) -> Codes
     ensures { result ≡ report_codes fields.now }
 {
     let ord_status = code_of(fields.value(39));
-    let leaves = decimal_of(fields.value(151)).unwrap_or(Dec { units: 0 });
     Codes {
         exec_type: code_of(fields.value(150)),
         ord_status,
-        fills: is_fill(ord_status.unwrap_or(0), leaves),
+        fills: fills(fields, ord_status.unwrap_or(0)),
         ord_type: code_of(kept(fields, 40, &TYPES)),
         time: code_of(kept(fields, 59, &TIMES)),
     }

@@ -1,6 +1,7 @@
 //! Writing the content of FIX 4.2 rule by rule.
 
-ghost use Rattle.std.specs.Prelude.{◌≡◌, ◌++◌, IfErr, IfOk, IfSome, None, OnOk, codes, drop, take};
+ghost use Rattle.std.specs.Prelude.{◌≡◌, ◌++◌, [], IfErr, IfOk, IfSome, None, OnOk, codes, drop};
+ghost use Rattle.std.specs.Prelude.{false, take};
 ghost use Rattle.std.specs.Io.{StartsWith};
 ghost use Rattle.std.specs.Option.{option_map};
 ghost use Rattle.typed_fields.specs.Number.{IsNumber};
@@ -189,6 +190,24 @@ fn told(alloc: Global, fields: &Fields<'_>, is_report: bool) -> Result<Vec<u8>, 
     }
 }
 
+/// Whether an execution report, or a cancel reject, has a field of a reason, which alone may be
+/// told.
+fn has_reason(fields: &Fields<'_>, is_report: bool) -> bool
+    ensures { (result ≡ false) → told fields.now is_report ≡ [] }
+{
+    if is_report {
+        match (fields.value(103), fields.value(378)) {
+            (None, None) => false,
+            _ => true,
+        }
+    } else {
+        match fields.value(102) {
+            None => false,
+            Some(_) => true,
+        }
+    }
+}
+
 /// Appends Text(58), which tells the reasons that FIX 4.2 lacks of an execution report, or of a
 /// cancel reject.
 ///
@@ -200,6 +219,9 @@ pub fn put_told(out: &mut Vec<u8>, fields: &Fields<'_>, is_report: bool) -> Resu
         (cell_fields (Tag 58, telling (value_at 58 fields.now) (told fields.now is_report)))) }
     ensures kept { StartsWith out.new.items out.old.items }
 {
+    if !has_reason(fields, is_report) {
+        return put_text(out, 58, fields.value(58));
+    }
     let told = told(*out.allocator(), fields, is_report)?;
     put_telling(out, 58, fields.value(58), &told)
 }
@@ -214,8 +236,13 @@ pub fn put_month(out: &mut Vec<u8>, fields: &Fields<'_>) -> Result<(), AllocErro
         ≡ out.old.items ++ body_of (cell_fields (Tag 200, month fields.now))) }
     ensures kept { StartsWith out.new.items out.old.items }
 {
-    let maturity = maturity(fields);
-    put_one(out, Part::Row(200, Value::Month(&maturity)))
+    match (fields.value(541), fields.value(200)) {
+        (None, None) => Ok(()),
+        _ => {
+            let maturity = maturity(fields);
+            put_one(out, Part::Row(200, Value::Month(&maturity)))
+        }
+    }
 }
 
 /// Appends MaturityDay(205), where there is a date.
@@ -292,6 +319,7 @@ fn exec_type_if(codes: &Codes) -> Option<u8>
 }
 
 /// Appends OrdStatus(39).
+#[inline(always)]
 fn put_status(source: &Source<'_, '_, '_>, out: &mut Vec<u8>) -> Appended
     ensures done { OnOk result (out.new.items
         ≡ out.old.items ++ body_of (writes source.now rules.OrdStatus)) }
@@ -348,6 +376,7 @@ impl<'k> OwnRule<Besides<'k>> for Own {
 
     ghost lacks = { lacks };
 
+    #[inline(always)]
     fn put(&self, source: &Source<'_, 'k, '_>, out: &mut Vec<u8>) -> Result<(), Lack> {
         let fields = source.fields;
         match self {

@@ -5,7 +5,8 @@ use Rattle.std.specs.Str.{bytes_eq}
 use Rattle.std.proofs.lemmas.Slice.Eq.{bytes_eq-Decides}
 use Rattle.field_groups.specs.declared.fault.SplitFault.{SplitFault}
 use Rattle.field_groups.specs.Field.{Field}
-use Rattle.message_tables.specs.Tables.{Message}
+use Rattle.message_tables.specs.Tables.{Message, Table}
+use Rattle.row_values.specs.Kinds.{Kind}
 use Rattle.order_meaning.specs.declared.Side.{Side}
 use Rattle.order_meaning.specs.declared.Side.TheVariants.{Client, Venue}
 use Rattle.order_meaning.specs.declared.fault.Fault.{Fault}
@@ -70,27 +71,38 @@ module _ (msg_type : List ℕ) (fields : List Field) (stopped : Option SplitFaul
   unfolding refusal_message
   no_refusal side three j = rw (three, j) refl
 
+  -- the table of a Reject of a side, and that of a Business Message Reject
+  abbrev session_table : Side → Table Kind
+  session_table Client = session_reject_table42
+  session_table Venue = session_reject_table50
+
+  abbrev business_table : Side → Table Kind
+  business_table Client = business_reject_table42
+  business_table Venue = business_reject_table50
+
+  session_is : (side : Side) → bytes_eq msg_type (codes "3") ≡ true
+      → refusal_message side msg_type fields stopped
+      ≡ refusal_by (session_table side) fields stopped
+  unfolding any42 any50
+  session_is Client test = refusal_is Client (codes "3") refl test
+  session_is Venue test = refusal_is Venue (codes "3") refl test
+
+  business_is : (side : Side) → bytes_eq msg_type (codes "j") ≡ true
+      → refusal_message side msg_type fields stopped
+      ≡ refusal_by (business_table side) fields stopped
+  unfolding any42 any50
+  business_is Client test = refusal_is Client (codes "j") refl test
+  business_is Venue test = refusal_is Venue (codes "j") refl test
+
   -- a refusal that is read is that of a whole body
-  ends : (message : Option SplitFault → Result Message Fault) (x : Message)
-      → ((fault : SplitFault) → message (Some fault) ≡ Err (of_split fault))
-      → message stopped ≡ Ok x → stopped ≡ None
-  ends message x stops is = by stopped is
+  ends : (table : Table Kind) (x : Message) → refusal_by table fields stopped ≡ Ok x
+      → stopped ≡ None
+  ends table x is = by stopped is
     where
-      by : (s : Option SplitFault) → message s ≡ Ok x → s ≡ None
+      by : (s : Option SplitFault) → refusal_by table fields s ≡ Ok x → s ≡ None
       by None is = refl
-      by (Some fault) is = let no = stops fault in absurd cc
-
-  three_ends : (side : Side) (fault : SplitFault)
-      → message_of side (codes "3") fields (Some fault) ≡ Err (of_split fault)
-  unfolding any42 any50
-  three_ends Client fault = refl
-  three_ends Venue fault = refl
-
-  j_ends : (side : Side) (fault : SplitFault)
-      → message_of side (codes "j") fields (Some fault) ≡ Err (of_split fault)
-  unfolding any42 any50
-  j_ends Client fault = refl
-  j_ends Venue fault = refl
+      by (Some fault) is =
+          let no : refusal_by table fields (Some fault) ≡ Err (of_split fault) = refl in absurd cc
 
   pub whole_refusal : (side : Side) (x : Message)
       → refusal_message side msg_type fields stopped ≡ Ok x → stopped ≡ None
@@ -99,10 +111,8 @@ module _ (msg_type : List ℕ) (fields : List Field) (stopped : Option SplitFaul
     where
       by : (a b : Bool) → bytes_eq msg_type (codes "3") ≡ a → bytes_eq msg_type (codes "j") ≡ b
           → stopped ≡ None
-      by true b a' b' = ends (message_of side (codes "3") fields) x (three_ends side)
-          (sym (refusal_is side (codes "3") refl a') ∙ is)
-      by false true a' b' = ends (message_of side (codes "j") fields) x (j_ends side)
-          (sym (refusal_is side (codes "j") refl b') ∙ is)
+      by true b a' b' = ends (session_table side) x (sym (session_is side a') ∙ is)
+      by false true a' b' = ends (business_table side) x (sym (business_is side b') ∙ is)
       by false false a' b' = let no = no_refusal side a' b' in absurd cc
 
   read_as : (says : Refusal → Message) (r : Result Refusal Fault) (x y : Result Message Fault)
@@ -113,42 +123,18 @@ module _ (msg_type : List ℕ) (fields : List Field) (stopped : Option SplitFaul
   read_as says (Err (faults.Session tag reason)) x y gives same = same ∙ gives
   read_as says (Err (faults.NoCounterpart tag)) x y gives same = same ∙ gives
 
-  pub session42 : (says : Refusal → Message) (r : Result Refusal Fault)
+  pub session : (side : Side) (says : Refusal → Message) (r : Result Refusal Fault)
       → bytes_eq msg_type (codes "3") ≡ true
-      → Gives says r (refusal_by session_reject_table42 fields stopped)
-      → IsReadAs r (refusal_message Client msg_type fields stopped)
-  unfolding any42
-  session42 says r test gives =
-      read_as says r (refusal_by session_reject_table42 fields stopped) _ gives
-      (refusal_is Client (codes "3") refl test)
+      → Gives says r (refusal_by (session_table side) fields stopped)
+      → IsReadAs r (refusal_message side msg_type fields stopped)
+  session side says r test gives = read_as says r _ _ gives (session_is side test)
 
-  pub business42 : (says : Refusal → Message) (r : Result Refusal Fault)
+  pub business : (side : Side) (says : Refusal → Message) (r : Result Refusal Fault)
       → bytes_eq msg_type (codes "j") ≡ true
-      → Gives says r (refusal_by business_reject_table42 fields stopped)
-      → IsReadAs r (refusal_message Client msg_type fields stopped)
-  unfolding any42
-  business42 says r test gives =
-      read_as says r (refusal_by business_reject_table42 fields stopped) _ gives
-      (refusal_is Client (codes "j") refl test)
+      → Gives says r (refusal_by (business_table side) fields stopped)
+      → IsReadAs r (refusal_message side msg_type fields stopped)
+  business side says r test gives = read_as says r _ _ gives (business_is side test)
 
-  pub session50 : (says : Refusal → Message) (r : Result Refusal Fault)
-      → bytes_eq msg_type (codes "3") ≡ true
-      → Gives says r (refusal_by session_reject_table50 fields stopped)
-      → IsReadAs r (refusal_message Venue msg_type fields stopped)
-  unfolding any50
-  session50 says r test gives =
-      read_as says r (refusal_by session_reject_table50 fields stopped) _ gives
-      (refusal_is Venue (codes "3") refl test)
+pub ruleset refusals42 = (session, business, no_refusal)
 
-  pub business50 : (says : Refusal → Message) (r : Result Refusal Fault)
-      → bytes_eq msg_type (codes "j") ≡ true
-      → Gives says r (refusal_by business_reject_table50 fields stopped)
-      → IsReadAs r (refusal_message Venue msg_type fields stopped)
-  unfolding any50
-  business50 says r test gives =
-      read_as says r (refusal_by business_reject_table50 fields stopped) _ gives
-      (refusal_is Venue (codes "j") refl test)
-
-pub ruleset refusals42 = (session42, business42, no_refusal)
-
-pub ruleset refusals50 = (session50, business50, no_refusal)
+pub ruleset refusals50 = (session, business, no_refusal)

@@ -4,6 +4,5 @@ pub mod Sense
 pub mod Step
 pub mod Said
 pub mod Readable
-pub mod Content
 pub mod Reading
 pub mod Laws

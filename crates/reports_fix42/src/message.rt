@@ -2,13 +2,12 @@
 
 ghost use Rattle.std.specs.Prelude.{◌≡◌, ◌++◌, IfOk, None, OnErr, OnOk, Some};
 ghost use Rattle.field_groups.specs.Field.{body_of};
+ghost use Rattle.message_tables.specs.Content.{content};
 ghost use Rattle.first_faults.specs.Faults.{message_by};
 ghost use Rattle.first_faults.specs.Gives.{Gives};
 ghost use Rattle.refusal_parts.specs.Once.{refusal_by};
 ghost use Rattle.refusal_parts.specs.Readable.{IsReadableRefusal};
 ghost use Rattle.refusal_parts.specs.Said.{business_reject_says, session_reject_says};
-ghost use Rattle.reports_fix42.specs.Content.{business_reject_content, cancel_reject_content};
-ghost use Rattle.reports_fix42.specs.Content.{report_content, session_reject_content};
 ghost use Rattle.reports_fix42.specs.Message.{business_reject_table, cancel_reject_table};
 ghost use Rattle.reports_fix42.specs.Message.{execution_report_table};
 ghost use Rattle.reports_fix42.specs.Message.{session_reject_table};
@@ -100,7 +99,8 @@ pub fn read_business_reject(alloc: Global, split: &Split<'_>) -> Result<Refusal,
 /// `AllocError` for want of memory; then `out` is unchanged.
 pub fn write_report(msg: &Report42, out: &mut Vec<u8>) -> Result<(), AllocError>
     requires { IsReadableReport msg.now }
-    ensures ok { OnOk result (out.new.items ≡ out.old.items ++ body_of (report_content msg.now)) }
+    ensures ok { OnOk result (out.new.items
+        ≡ out.old.items ++ body_of (content execution_report_table (report_says msg.now))) }
     ensures err { OnErr result (out.new.items ≡ out.old.items) }
 {
     put_content(out, &report_parts(msg))
@@ -114,7 +114,7 @@ pub fn write_report(msg: &Report42, out: &mut Vec<u8>) -> Result<(), AllocError>
 pub fn write_cancel_reject(msg: &CancelReject42, out: &mut Vec<u8>) -> Result<(), AllocError>
     requires { IsReadableCancelReject msg.now }
     ensures ok { OnOk result (out.new.items
-        ≡ out.old.items ++ body_of (cancel_reject_content msg.now)) }
+        ≡ out.old.items ++ body_of (content cancel_reject_table (cancel_reject_says msg.now))) }
     ensures err { OnErr result (out.new.items ≡ out.old.items) }
 {
     put_content(out, &cancel_reject_parts(msg))
@@ -128,7 +128,7 @@ pub fn write_cancel_reject(msg: &CancelReject42, out: &mut Vec<u8>) -> Result<()
 pub fn write_session_reject(msg: &Refusal, out: &mut Vec<u8>) -> Result<(), AllocError>
     requires { IsReadableRefusal msg.now }
     ensures ok { OnOk result (out.new.items
-        ≡ out.old.items ++ body_of (session_reject_content msg.now)) }
+        ≡ out.old.items ++ body_of (content session_reject_table (session_reject_says msg.now))) }
     ensures err { OnErr result (out.new.items ≡ out.old.items) }
 {
     put_content(out, &session_reject_parts(msg))
@@ -142,7 +142,7 @@ pub fn write_session_reject(msg: &Refusal, out: &mut Vec<u8>) -> Result<(), Allo
 pub fn write_business_reject(msg: &Refusal, out: &mut Vec<u8>) -> Result<(), AllocError>
     requires { IsReadableRefusal msg.now }
     ensures ok { OnOk result (out.new.items
-        ≡ out.old.items ++ body_of (business_reject_content msg.now)) }
+        ≡ out.old.items ++ body_of (content business_reject_table (business_reject_says msg.now))) }
     ensures err { OnErr result (out.new.items ≡ out.old.items) }
 {
     put_content(out, &business_reject_parts(msg))

@@ -8,7 +8,7 @@ ghost use Rattle.value_kinds.specs.ValueKind.{code_text};
 ghost use Rattle.value_kinds.specs.CodeKinds.{is_byte_kind, value_kind_of};
 ghost use Rattle.row_values.specs.Kinds.{Value, said};
 ghost use Rattle.reports_fix42.specs.Readable.{IsReadableCancelReject, IsReadableReport};
-ghost use Rattle.reports_fix42.specs.Reading.{AreContras, AreTexts, IsCancelReject, IsReport};
+ghost use Rattle.reports_fix42.specs.Reading.{AreContras, IsCancelReject, IsReport};
 ghost use Rattle.reports_fix42.specs.Reading.{cancel_reject_texts, report_names, report_texts};
 
 use crate::reports::{CancelReject42, Report42};
@@ -93,59 +93,30 @@ fn report_texts(alloc: Global, fields: &Fields<'_>) -> Result<[Option<Bytes>; 8]
     Ok(texts)
 }
 
-/// The texts of an execution report.
-#[derive(Drop)]
-pub(crate) struct Texts {
-    /// OrderID(37).
-    pub(crate) order_id: Bytes,
-    /// SecondaryOrderID(198).
-    pub(crate) secondary_id: Option<Bytes>,
-    /// ClOrdID(11).
-    pub(crate) cl_ord_id: Option<Bytes>,
-    /// OrigClOrdID(41).
-    pub(crate) orig_id: Option<Bytes>,
-    /// ClientID(109).
-    pub(crate) client_id: Option<Bytes>,
-    /// ExecBroker(76).
-    pub(crate) exec_broker: Option<Bytes>,
-    /// ClearingFirm(439).
-    pub(crate) clearing_firm: Option<Bytes>,
-    /// ExecID(17).
-    pub(crate) exec_id: Bytes,
-    /// ExecRefID(19).
-    pub(crate) ref_id: Option<Bytes>,
-    /// Account(1).
-    pub(crate) account: Option<Bytes>,
-    /// Symbol(55).
-    pub(crate) symbol: Bytes,
-    /// SymbolSfx(65).
-    pub(crate) symbol_sfx: Option<Bytes>,
-    /// SecurityID(48).
-    pub(crate) security_id: Option<Bytes>,
-    /// SecurityType(167).
-    pub(crate) security_type: Option<Bytes>,
-    /// SecurityExchange(207).
-    pub(crate) security_exchange: Option<Bytes>,
-    /// Currency(15).
-    pub(crate) currency: Option<Bytes>,
-    /// LastMkt(30).
-    pub(crate) last_mkt: Option<Bytes>,
-    /// Text(58).
-    pub(crate) text: Option<Bytes>,
+/// The code that the field of a tag says, and zero where it says none.
+fn code_or_zero(fields: &Fields<'_>, tag: u32, kind: &ValueKind) -> u8
+    requires { IsTrue (is_byte_kind (value_kind_of kind.now)) }
+    ensures { IfSome (said fields.now tag (Value (value_kind_of kind.now)))
+        (λ text. text ≡ code_text result) }
+{
+    code(fields, tag, kind).unwrap_or(0)
 }
 
-/// These names and texts of an execution report, each by its name.
-fn texts_of(
+/// The execution report of these fields, contra brokers, names and texts.
+#[tactic(auto, using(crate::proofs::Means::contras_readable))]
+fn report_of(
     alloc: Global,
     fields: &Fields<'_>,
+    contras: Contras,
     names: [Option<Bytes>; 10],
     texts: [Option<Bytes>; 8],
-) -> Texts
+) -> Report42
+    requires contras { AreContras fields.now contras }
     requires names { names ≡ report_names fields.now }
     requires texts { texts ≡ report_texts fields.now }
-    ensures { AreTexts fields.now result }
+    ensures says { IsReport fields.now result }
+    ensures readable { IsReadableReport result }
 {
-    let _ = fields; // only the clauses speak of them
     let [
         order_id,
         secondary_id,
@@ -168,7 +139,8 @@ fn texts_of(
         last_mkt,
         text,
     ] = texts;
-    Texts {
+    Report42 {
+        resend: resend(fields),
         order_id: or_empty(alloc, order_id),
         secondary_id,
         cl_ord_id,
@@ -176,86 +148,37 @@ fn texts_of(
         client_id,
         exec_broker,
         clearing_firm,
-        exec_id: or_empty(alloc, exec_id),
-        ref_id,
-        account,
-        symbol: or_empty(alloc, symbol),
-        symbol_sfx,
-        security_id,
-        security_type,
-        security_exchange,
-        currency,
-        last_mkt,
-        text,
-    }
-}
-
-/// The texts of the execution report of these fields.
-fn read_texts(alloc: Global, fields: &Fields<'_>) -> Result<Texts, AllocError>
-    ensures { IfOk result (AreTexts fields.now) }
-{
-    let names = report_names(alloc, fields)?;
-    let texts = report_texts(alloc, fields)?;
-    Ok(texts_of(alloc, fields, names, texts))
-}
-
-/// The code that the field of a tag says, and zero where it says none.
-fn code_or_zero(fields: &Fields<'_>, tag: u32, kind: &ValueKind) -> u8
-    requires { IsTrue (is_byte_kind (value_kind_of kind.now)) }
-    ensures { IfSome (said fields.now tag (Value (value_kind_of kind.now)))
-        (λ text. text ≡ code_text result) }
-{
-    code(fields, tag, kind).unwrap_or(0)
-}
-
-/// The execution report of these fields, contra brokers and texts.
-#[tactic(auto, using(crate::proofs::ContraRows::contras_readable))]
-fn report_of(fields: &Fields<'_>, contras: Contras, texts: Texts) -> Report42
-    requires contras { AreContras fields.now contras }
-    requires texts { AreTexts fields.now texts }
-    ensures says { IsReport fields.now result }
-    ensures readable { IsReadableReport result }
-{
-    Report42 {
-        resend: resend(fields),
-        order_id: texts.order_id,
-        secondary_id: texts.secondary_id,
-        cl_ord_id: texts.cl_ord_id,
-        orig_id: texts.orig_id,
-        client_id: texts.client_id,
-        exec_broker: texts.exec_broker,
-        clearing_firm: texts.clearing_firm,
         contras,
-        exec_id: texts.exec_id,
+        exec_id: or_empty(alloc, exec_id),
         trans_type: code_or_zero(fields, 20, &TRANS_TYPE),
-        ref_id: texts.ref_id,
+        ref_id,
         exec_type: code_or_zero(fields, 150, &EXEC_TYPE),
         ord_status: code_or_zero(fields, 39, &ORD_STATUS),
         rej_reason: reason(fields, 103),
         restate_reason: reason(fields, 378),
-        account: texts.account,
+        account,
         settl_type: code(fields, 63, &SETTL_TYPE),
         settl_date: day(fields, 64),
-        symbol: texts.symbol,
-        symbol_sfx: texts.symbol_sfx,
-        security_id: texts.security_id,
+        symbol: or_empty(alloc, symbol),
+        symbol_sfx,
+        security_id,
         id_source: code(fields, 22, &ID_SOURCE),
-        security_type: texts.security_type,
+        security_type,
         maturity: month_and_day(fields),
-        security_exchange: texts.security_exchange,
+        security_exchange,
         side: code_or_zero(fields, 54, &SIDE),
         order_qty: qty(fields, 38),
         ord_type: code(fields, 40, &ORD_TYPE),
         price: price(fields, 44),
         stop_px: price(fields, 99),
-        currency: texts.currency,
+        currency,
         time_in_force: code(fields, 59, &TIME_IN_FORCE),
         expire_date: day(fields, 432),
         expire_time: stamp(fields, 126),
         capacity: code(fields, 47, &CAPACITY),
         last_qty: qty(fields, 32),
         last_px: price(fields, 31),
-        last_mkt: texts.last_mkt,
+        last_mkt,
         leaves: qty_or_zero(fields, 151),
         cum: qty_or_zero(fields, 14),
         avg: price_or_zero(fields, 6),
@@ -263,7 +186,7 @@ fn report_of(fields: &Fields<'_>, contras: Contras, texts: Texts) -> Report42
         transact_time: stamp(fields, 60),
         min_qty: qty(fields, 110),
         max_floor: qty(fields, 111),
-        text: texts.text,
+        text,
     }
 }
 
@@ -277,8 +200,9 @@ pub(crate) fn execution_report(
     ensures says { IfOk result (IsReport fields.now) }
     ensures readable { IfOk result IsReadableReport }
 {
-    let texts = read_texts(alloc, fields)?;
-    Ok(report_of(fields, contras, texts))
+    let names = report_names(alloc, fields)?;
+    let texts = report_texts(alloc, fields)?;
+    Ok(report_of(alloc, fields, contras, names, texts))
 }
 
 /// The cancel reject of these fields and texts.

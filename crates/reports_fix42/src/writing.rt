@@ -2,9 +2,11 @@
 
 ghost use Rattle.std.specs.Prelude.{◌≡◌};
 ghost use Rattle.std.specs.List.{AllByRecursion, flat_map};
+ghost use Rattle.message_tables.specs.Content.{content};
 ghost use Rattle.row_values.specs.Writing.{IsPart, part_fields};
-ghost use Rattle.reports_fix42.specs.Content.{cancel_reject_content, report_content};
+ghost use Rattle.reports_fix42.specs.Message.{cancel_reject_table, execution_report_table};
 ghost use Rattle.reports_fix42.specs.Readable.{IsReadableCancelReject, IsReadableReport};
+ghost use Rattle.reports_fix42.specs.Said.{cancel_reject_says, report_says};
 
 use crate::reports::{CancelReject42, Report42};
 use row_values::{Part, Value};
@@ -13,7 +15,8 @@ use row_values::{Part, Value};
 pub(crate) fn report_parts(m: &Report42) -> [Part<'_>; 47]
     requires { IsReadableReport m.now }
     ensures parts { AllByRecursion IsPart result }
-    ensures content { flat_map part_fields result ≡ report_content m.now }
+    ensures content { flat_map part_fields result
+        ≡ content execution_report_table (report_says m.now) }
 {
     [
         Part::Row(37, Value::Text(&m.order_id)),
@@ -70,7 +73,8 @@ pub(crate) fn report_parts(m: &Report42) -> [Part<'_>; 47]
 pub(crate) fn cancel_reject_parts(m: &CancelReject42) -> [Part<'_>; 10]
     requires { IsReadableCancelReject m.now }
     ensures parts { AllByRecursion IsPart result }
-    ensures content { flat_map part_fields result ≡ cancel_reject_content m.now }
+    ensures content { flat_map part_fields result
+        ≡ content cancel_reject_table (cancel_reject_says m.now) }
 {
     [
         Part::Row(37, Value::Text(&m.order_id)),

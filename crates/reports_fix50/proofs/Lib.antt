@@ -2,4 +2,3 @@ pub mod Few
 pub mod Lines
 pub mod Means
 pub mod Steps
-mod Worked

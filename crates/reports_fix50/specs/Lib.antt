@@ -1,4 +1,3 @@
-pub mod Content
 pub mod Laws
 pub mod Message
 pub mod Readable

@@ -5,7 +5,6 @@
 mod groups;
 pub mod laws;
 mod message;
-mod order_part;
 mod reading;
 mod reports;
 mod tables;

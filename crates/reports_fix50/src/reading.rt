@@ -6,12 +6,11 @@
 ghost use Rattle.std.specs.Prelude.{◌≡◌, IfOk, IfSome};
 ghost use Rattle.value_kinds.specs.ValueKind.{code_text};
 ghost use Rattle.reports_fix50.specs.Readable.{IsReadableCancelReject, IsReadableReport};
-ghost use Rattle.reports_fix50.specs.Reading.{AreGroups, IsCancelReject, IsOrderPart};
-ghost use Rattle.reports_fix50.specs.Reading.{IsReadableOrderPart, IsReport, cancel_reject_texts};
-ghost use Rattle.reports_fix50.specs.Reading.{exec_type_said, report_texts};
+ghost use Rattle.reports_fix50.specs.Reading.{AreGroups, IsCancelReject, IsReport};
+ghost use Rattle.reports_fix50.specs.Reading.{cancel_reject_texts, exec_type_said, order_texts};
+ghost use Rattle.reports_fix50.specs.Reading.{report_texts};
 
 use crate::groups::Groups;
-use crate::order_part::{OrderPart, order_part};
 use crate::reports::{CancelReject50, Report50};
 use crate::tables::{EXEC_TYPES, ORD_STATUSES};
 use field_groups::Fields;
@@ -20,15 +19,34 @@ use row_values::{
     code, day, fine_stamp, or_empty, owned, price, price_or_zero, qty, qty_or_zero, reason, resend,
     text,
 };
+use rows_fix50::{maturity, time_in_force};
 use std::alloc::{AllocError, Global};
 use value_kinds::ValueKind;
-use value_kinds::ValueKind::{Id, Known, Text};
+use value_kinds::ValueKind::{Code, Currency, Id, Known, Text, Word};
 
 /// What ExecType(150) may be.
 const EXEC_TYPE: ValueKind = Known(EXEC_TYPES);
 
 /// What OrdStatus(39) may be.
 const ORD_STATUS: ValueKind = Known(ORD_STATUSES);
+
+/// What SettlType(63) may be.
+const SETTL_TYPE: ValueKind = Code(b"0123456789");
+
+/// What SecurityIDSource(22) may be.
+const ID_SOURCE: ValueKind = Code(b"123456789");
+
+/// What SecurityType(167) may be.
+const SECURITY_TYPE: ValueKind = Word(&[b"CS", b"PS", b"FUT"]);
+
+/// What Side(54) may be.
+const SIDE: ValueKind = Code(b"123456");
+
+/// What OrdType(40) may be.
+const ORD_TYPE: ValueKind = Code(b"1234");
+
+/// What OrderCapacity(528) may be.
+const CAPACITY: ValueKind = Code(b"AIP");
 
 /// What CxlRejResponseTo(434) may be.
 const RESPONSE_TO: ValueKind = Known(b"12");
@@ -58,22 +76,47 @@ fn texts_of_report(alloc: Global, fields: &Fields<'_>) -> Result<[Option<Bytes>;
     Ok(texts)
 }
 
+/// The texts of the order of an execution report.
+fn texts_of_order(alloc: Global, fields: &Fields<'_>) -> Result<[Option<Bytes>; 7], AllocError>
+    ensures { IfOk result (λ texts. texts ≡ order_texts fields.now) }
+{
+    let texts = [
+        text(fields, 1, &Id),
+        text(fields, 55, &Id),
+        text(fields, 65, &Id),
+        text(fields, 48, &Id),
+        text(fields, 167, &SECURITY_TYPE),
+        text(fields, 207, &Id),
+        text(fields, 15, &Currency),
+    ]
+    .try_map(|text| owned(alloc, text))?;
+    Ok(texts)
+}
+
 /// The execution report of these fields, groups and texts.
 #[tactic(auto, using(crate::proofs::Lines::of_lines))]
 fn report_of(
     alloc: Global,
     fields: &Fields<'_>,
     groups: Groups,
-    order: OrderPart,
+    order: [Option<Bytes>; 7],
     texts: [Option<Bytes>; 8],
 ) -> Report50
     requires groups { AreGroups fields.now groups }
-    requires order { IsOrderPart fields.now order }
-    requires readable { IsReadableOrderPart order }
+    requires order { order ≡ order_texts fields.now }
     requires texts { texts ≡ report_texts fields.now }
     ensures says { IsReport fields.now result }
     ensures readable { IsReadableReport result }
 {
+    let [
+        account,
+        symbol,
+        symbol_sfx,
+        security_id,
+        security_type,
+        security_exchange,
+        currency,
+    ] = order;
     let [
         order_id,
         secondary_id,
@@ -98,26 +141,26 @@ fn report_of(
         ord_status: code(fields, 39, &ORD_STATUS).unwrap_or(0),
         rej_reason: reason(fields, 103),
         restate_reason: reason(fields, 378),
-        account: order.account,
-        settl_type: order.settl_type,
-        settl_date: order.settl_date,
-        symbol: order.symbol,
-        symbol_sfx: order.symbol_sfx,
-        security_id: order.security_id,
-        id_source: order.id_source,
-        security_type: order.security_type,
-        maturity: order.maturity,
-        security_exchange: order.security_exchange,
-        side: order.side,
-        order_qty: order.order_qty,
-        ord_type: order.ord_type,
-        price: order.price,
-        stop_px: order.stop_px,
-        currency: order.currency,
-        time_in_force: order.time_in_force,
-        expire_date: order.expire_date,
-        expire_time: order.expire_time,
-        capacity: order.capacity,
+        account,
+        settl_type: code(fields, 63, &SETTL_TYPE),
+        settl_date: day(fields, 64),
+        symbol: or_empty(alloc, symbol),
+        symbol_sfx,
+        security_id,
+        id_source: code(fields, 22, &ID_SOURCE),
+        security_type,
+        maturity: maturity(fields),
+        security_exchange,
+        side: code(fields, 54, &SIDE).unwrap_or(0),
+        order_qty: qty(fields, 38),
+        ord_type: code(fields, 40, &ORD_TYPE),
+        price: price(fields, 44),
+        stop_px: price(fields, 99),
+        currency,
+        time_in_force: time_in_force(fields),
+        expire_date: day(fields, 432),
+        expire_time: fine_stamp(fields, 126),
+        capacity: code(fields, 528, &CAPACITY),
         last_qty: qty(fields, 32),
         last_px: price(fields, 31),
         last_mkt,
@@ -142,7 +185,7 @@ pub(crate) fn execution_report(
     ensures says { IfOk result (IsReport fields.now) }
     ensures readable { IfOk result IsReadableReport }
 {
-    let order = order_part(alloc, fields)?;
+    let order = texts_of_order(alloc, fields)?;
     let texts = texts_of_report(alloc, fields)?;
     Ok(report_of(alloc, fields, groups, order, texts))
 }

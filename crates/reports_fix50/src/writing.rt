@@ -2,10 +2,12 @@
 
 ghost use Rattle.std.specs.Prelude.{◌≡◌};
 ghost use Rattle.std.specs.List.{AllByRecursion, flat_map};
+ghost use Rattle.message_tables.specs.Content.{content};
 ghost use Rattle.row_values.specs.Lines.{AreReadableParties};
 ghost use Rattle.row_values.specs.Writing.{IsPart, part_fields};
-ghost use Rattle.reports_fix50.specs.Content.{cancel_reject_content, report_content};
+ghost use Rattle.reports_fix50.specs.Message.{cancel_reject_table, report_table};
 ghost use Rattle.reports_fix50.specs.Readable.{IsReadableCancelReject, IsReadableReport};
+ghost use Rattle.reports_fix50.specs.Said.{cancel_reject_says, report_says};
 
 use crate::reports::{CancelReject50, Report50};
 use order_meaning::Lines;
@@ -17,7 +19,7 @@ pub(crate) fn report_parts<'m>(m: &'m Report50, parties: &'m Lines) -> [Part<'m>
     requires parties { AreReadableParties parties.now }
     ensures parts { AllByRecursion IsPart result }
     ensures content { flat_map part_fields result
-        ≡ report_content (record m.now { parties = parties.now }) }
+        ≡ content report_table (report_says (record m.now { parties = parties.now })) }
 {
     [
         Part::Row(37, Value::Text(&m.order_id)),
@@ -71,7 +73,8 @@ pub(crate) fn report_parts<'m>(m: &'m Report50, parties: &'m Lines) -> [Part<'m>
 pub(crate) fn cancel_reject_parts(m: &CancelReject50) -> [Part<'_>; 10]
     requires { IsReadableCancelReject m.now }
     ensures parts { AllByRecursion IsPart result }
-    ensures content { flat_map part_fields result ≡ cancel_reject_content m.now }
+    ensures content { flat_map part_fields result
+        ≡ content cancel_reject_table (cancel_reject_says m.now) }
 {
     [
         Part::Row(37, Value::Text(&m.order_id)),

@@ -1,17 +1,17 @@
 -- A month and its day as a date, and the month beside it.
 use Rattle.std.proofs.Common.{◌≡◌, ℕ, List, [], ◌∷◌, ◌++◌, length, take, Bool, true, false, Option}
-use Rattle.std.proofs.Common.{Some, None, refl, sym, ap, ◌∙◌, codes, arith, subst}
-use Rattle.std.proofs.lemmas.Bool.{eqb-true}
+use Rattle.std.proofs.Common.{Some, None, refl, sym, ap, ◌∙◌, codes, arith}
 use Rattle.std.proofs.lemmas.List.{take_at}
-use Rattle.std.specs.Prelude.{IfSome, ◌==◌, Ok, Err, Result, if◌then◌else◌}
+use Rattle.std.specs.Prelude.{IfSome, Ok, Err, Result, if◌then◌else◌}
 use Rattle.std.specs.Char.{is_ascii_digit}
 use Rattle.std.specs.Str.Parse.{digits_value}
 use Rattle.std.specs.Result.{result_ok}
 use Rattle.typed_fields.specs.declared.fault.FieldFault.{FieldFault}
 use Rattle.typed_fields.specs.declared.month_year.MonthYear.{MonthYear as MonthValue}
-use Rattle.typed_fields.specs.Digits.{has_pattern, have_marks, number_of}
+use Rattle.typed_fields.specs.Digits.{has_pattern, number_of}
 use Rattle.typed_fields.specs.Day.{is_date, day_number}
 use Rattle.typed_fields.specs.MonthYear.{read_month_year, year_in, month_in}
+use Rattle.typed_fields.proofs.DigitsLemmas.{length-has_pattern}
 use Rattle.typed_fields.proofs.SpellingLemmas.{judged_ok, judged_good}
 use Rattle.field_groups.specs.Field.{Field}
 use Rattle.value_kinds.specs.ValueKind.{MonthYear, Day, DayOfMonth, Spelling, spelling, spelt}
@@ -82,15 +82,10 @@ is_month (b ∷ bs) h =
       read = judged_good (b ∷ bs) _ _ (month_of (b ∷ bs)) parts.some parts.form parts.bound;
     }
 
-six : (text : List ℕ) → has_pattern (codes "YYYYMM") text ≡ true → length text ≡ 6
-unfolding has_pattern
-six text h = sym (eqb-true 6 (length text)
-    (both (6 == length text) (have_marks (codes "YYYYMM") text) h).0)
-
 pub month_length : (fields : List Field) (text : List ℕ)
     → judge fields (Value MonthYear) text ≡ Spells text → length text ≡ 6
 unfolding judge
-month_length fields text h = six text (is_month text h).form
+month_length fields text h = length-has_pattern (codes "YYYYMM") text (is_month text h).form
 
 -- ---- a date
 
@@ -98,32 +93,27 @@ date_by : (month day : List ℕ) → has_pattern (codes "YYYYMM") month ≡ true
     → is_date (year_in month) (month_in month) (number_of_two day) ≡ true
     → verdict_of (spelling Day (month ++ day)) ≡ Spells (month ++ day)
 unfolding spelling has_pattern number_of
-date_by (y1 ∷ y2 ∷ y3 ∷ y4 ∷ m1 ∷ m2 ∷ []) day form two good =
-    let P : List ℕ → Type 0 = λ d. is_date (year_in (y1 ∷ y2 ∷ y3 ∷ y4 ∷ m1 ∷ m2 ∷ []))
-    (month_in (y1 ∷ y2 ∷ y3 ∷ y4 ∷ m1 ∷ m2 ∷ [])) (digits_value 10 d) ≡ true
-    → verdict_of (spelling Day (y1 ∷ y2 ∷ y3 ∷ y4 ∷ m1 ∷ m2 ∷ d))
-    ≡ Spells (y1 ∷ y2 ∷ y3 ∷ y4 ∷ m1 ∷ m2 ∷ d) in
-    subst P (sym two.is) ends
-    (rw (two_value day day two) good)
-  where
-    ends : is_date (year_in (y1 ∷ y2 ∷ y3 ∷ y4 ∷ m1 ∷ m2 ∷ []))
-        (month_in (y1 ∷ y2 ∷ y3 ∷ y4 ∷ m1 ∷ m2 ∷ []))
-        (digits_value 10 (two.ten ∷ two.one ∷ [])) ≡ true
-        → verdict_of (spelling Day (y1 ∷ y2 ∷ y3 ∷ y4 ∷ m1 ∷ m2 ∷ two.ten ∷ two.one ∷ []))
-        ≡ Spells (y1 ∷ y2 ∷ y3 ∷ y4 ∷ m1 ∷ m2 ∷ two.ten ∷ two.one ∷ [])
-    ends date =
-        let p1 = both (is_ascii_digit y1) _ form in
-        let p2 = both (is_ascii_digit y2) _ p1.1 in
-        let p3 = both (is_ascii_digit y3) _ p2.1 in
-        let p4 = both (is_ascii_digit y4) _ p3.1 in
-        let p5 = both (is_ascii_digit m1) _ p4.1 in
-        let p6 = both (is_ascii_digit m2) _ p5.1 in
-        let text = y1 ∷ y2 ∷ y3 ∷ y4 ∷ m1 ∷ m2 ∷ two.ten ∷ two.one ∷ [] in
-        let marks : has_pattern (codes "YYYYMMDD") text ≡ true =
-        rw (p1.0, p2.0, p3.0, p4.0, p5.0, p6.0, two.ten_digit, two.one_digit) refl in
-        ap (λ r. verdict_of (spelt (λ _. text) r))
-        (judged_good text _ _ (record { day = day_number text }) refl marks date)
-date_by text day form two good = absurd (omega (arith, six text form))
+date_by (y1 ∷ y2 ∷ y3 ∷ y4 ∷ m1 ∷ m2 ∷ []) (d1 ∷ d2 ∷ []) form two good =
+    let p1 = both (is_ascii_digit y1) _ form in
+    let p2 = both (is_ascii_digit y2) _ p1.1 in
+    let p3 = both (is_ascii_digit y3) _ p2.1 in
+    let p4 = both (is_ascii_digit y4) _ p3.1 in
+    let p5 = both (is_ascii_digit m1) _ p4.1 in
+    let p6 = both (is_ascii_digit m2) _ p5.1 in
+    let is = two.is in
+    let d1_digit : is_ascii_digit d1 ≡ true = let ten : d1 ≡ two.ten = cc in rw ten two.ten_digit in
+    let d2_digit : is_ascii_digit d2 ≡ true = let one : d2 ≡ two.one = cc in rw one two.one_digit in
+    let month = y1 ∷ y2 ∷ y3 ∷ y4 ∷ m1 ∷ m2 ∷ [] in
+    let text = y1 ∷ y2 ∷ y3 ∷ y4 ∷ m1 ∷ m2 ∷ d1 ∷ d2 ∷ [] in
+    let marks : has_pattern (codes "YYYYMMDD") text ≡ true =
+    rw (p1.0, p2.0, p3.0, p4.0, p5.0, p6.0, d1_digit, d2_digit) refl in
+    let date : is_date (year_in month) (month_in month) (digits_value 10 (d1 ∷ d2 ∷ [])) ≡ true =
+    rw (two_value (d1 ∷ d2 ∷ []) (d1 ∷ d2 ∷ []) two) good in
+    ap (λ r. verdict_of (spelt (λ _. text) r))
+    (judged_good text _ _ (record { day = day_number text }) refl marks date)
+date_by (y1 ∷ y2 ∷ y3 ∷ y4 ∷ m1 ∷ m2 ∷ []) day form two good = absurd (let is = two.is in cc)
+date_by text day form two good =
+    absurd (omega (arith, length-has_pattern (codes "YYYYMM") text form))
 
 module _ (fields42 fields50 : List Field) (month day : List ℕ) where
   -- a date of FIX 5.0 SP2

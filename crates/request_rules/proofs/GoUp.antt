@@ -19,7 +19,6 @@ use Rattle.dict_fix42.specs.Sense as sense42
 use Rattle.dict_fix42.specs.Sense.{request42}
 use Rattle.dict_fix50.specs.Message.{message50}
 use Rattle.sound_laws.specs.Sound.{IsSound, without_resend}
-use Rattle.sound_laws.proofs.Each.{◌&◌}
 use Rattle.sound_laws.proofs.ContentAgain.{content_again}
 use Rattle.sound_laws.proofs.PlainFields.{clear_fields}
 use Rattle.sound_laws.proofs.Stages.{item_tags}
@@ -39,9 +38,9 @@ use Rattle.request_rules.proofs.ByType.{asked, asked42, items42, letter_of}
 use Rattle.request_rules.proofs.KindsUp.{are_kinds, own}
 use Rattle.request_rules.proofs.LacksUp.{lack_is}
 use Rattle.request_rules.proofs.SenseUp.{keeps_sense}
-use Rattle.request_rules.proofs.SoundUp.{sound_up, month42, day42, time42}
+use Rattle.request_rules.proofs.SoundUp.{GoesUp, each_made, items_up, make, sound_up, month42}
+use Rattle.request_rules.proofs.SoundUp.{day42, time42}
 use Rattle.request_rules.proofs.Sound42.{read_is_sound}
-use Rattle.request_rules.proofs.TablesUp.{GoesUp, each_made, items_up, make}
 use Rattle.sound_laws.proofs.RowsSaid.{is_code_of}
 use Rattle.request_rules.proofs.TermsUp.{is_other}
 
@@ -77,30 +76,8 @@ month_of_date (Some month) (Some day) six =
 
 -- the tables of the four requests go up
 table_goes : (kind : RequestKind) → GoesUp (items42 kind)
-table_goes Cancel = record {
-  carried = refl;
-  rows = refl & refl & tt & tt & tt & refl & refl & tt & tt;
-  month_alone = refl;
-  date_alone = refl;
-  timed = refl;
-  type_alone = λ e. absurd cc;
-}
-table_goes Status = record {
-  carried = refl;
-  rows = refl & refl & tt & tt & tt & refl & refl & tt & tt;
-  month_alone = refl;
-  date_alone = refl;
-  timed = refl;
-  type_alone = λ e. absurd cc;
-}
-table_goes kind = record {
-  carried = refl;
-  rows = refl & refl & refl & refl & refl & refl & refl & refl & tt;
-  month_alone = refl;
-  date_alone = refl;
-  timed = refl;
-  type_alone = λ e. refl;
-}
+table_goes New = search
+table_goes kind = search
 
 -- ---- a message of a table that goes up
 

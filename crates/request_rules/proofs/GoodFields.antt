@@ -25,22 +25,22 @@ module _ (msg_type : List ℕ) (fields : List Field) (stopped : Option SplitFaul
   unfolding message42
   fault_is t is fault h = ap (λ (t : Option (Table Kind)). message_by t fields stopped) (sym is) ∙ h
 
-  module _ (good : Good) (is : Some (table good) ≡ table_of msg_type)
+  -- fields at no fault beside a table that is that of their type
+  module _ (good : Good) (t : Table Kind) (same : table good ≡ t) (is : Some t ≡ table_of msg_type)
       (clean : (good.fields.now ≡ fields) × (stopped ≡ None)
-      × (first_fault judge (table good) fields ≡ None)) where
+      × (first_fault judge t fields ≡ None)) where
     pub good_is : IsGood good
     good_is = record {
-      typed = (msg_type, sym is);
-      none = ap (first_fault judge (table good)) clean.0 ∙ clean.2;
+      typed = (msg_type, sym is ∙ ap (λ (t : Table Kind). Some t) (sym same));
+      none = (λ i. first_fault judge (same i) (clean.0 i)) ∙ clean.2;
     }
 
     pub read_is : IsRead msg_type fields stopped (said good)
-    unfolding message42
+    unfolding message42 good_is
     read_is = record {
       whole = clean.1;
-      read = ap (λ (t : Option (Table Kind)). message_by t fields None) (sym is)
-          ∙ ap (λ (fs : List Field). message_by (Some (table good)) fs None) (sym clean.0)
+      read = (λ i. message_by (good_is.typed.1 i) (sym clean.0 i) None)
           ∙ given (table good) good.fields.now None refl good_is.none;
     }
 
-pub ruleset of_good = (not_supported, fault_is, good_is, read_is)
+pub ruleset of_good = (not_supported, fault_is)

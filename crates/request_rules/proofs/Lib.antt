@@ -12,5 +12,4 @@ pub mod PutUp
 pub mod SenseUp
 pub mod Sound42
 pub mod SoundUp
-pub mod TablesUp
 pub mod TermsUp

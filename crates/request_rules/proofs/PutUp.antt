@@ -1,5 +1,5 @@
 -- What `put_up` appends is the content of what goes up, or its lack is told.
-use Rattle.std.proofs.Common.{◌≡◌, ◌++◌, ℕ, List, [], ◌∷◌, map, true, Some, None, refl, sym}
+use Rattle.std.proofs.Common.{◌≡◌, ◌++◌, ℕ, List, map, true, Some, None, refl, sym}
 use Rattle.std.proofs.Common.{ap, subst, ◌∙◌, Result, Ok, Err}
 use Rattle.std.specs.Prelude.{IfErr, OnOk}
 use Rattle.std.specs.List.{AllByRecursion, flat_map}
@@ -18,7 +18,6 @@ use Rattle.rule_rows.specs.declared.rules.Rule.{Rule as CodeRule}
 use Rattle.rule_rows.specs.CodeRules.{AreRead, IsLackOf, lacked, reading, rule_of, table_of}
 use Rattle.rule_rows.specs.CodeRules.{writes as all_write}
 use Rattle.rule_rows.proofs.Written.{AreSaid, rules_lacked, rules_written}
-use Rattle.dict_fix42.specs.Message.{table_of as table_of42}
 use Rattle.dict_fix42.specs.Sense.{request_of}
 use Rattle.request_rules.specs.declared.rules.Own.{Own as CodeOwn}
 use Rattle.request_rules.specs.CodeRules.{Source, code, is_apart, lacks, writes}
@@ -32,48 +31,30 @@ use Rattle.request_rules.proofs.FieldsUp.{lack_read, own_goes}
 
 -- ---- the four tables
 
--- what is known of the table of a request
-pub record IsKnown (table : Table Kind) : Type 0 where
-  pub own : table_of42 (table.letter ∷ []) ≡ Some table
+-- what is known of the table of a request, by what is asked for
+pub record IsKnown (table : Table Kind) (kind : RequestKind) : Type 0 where
+  pub its : asked42 kind ≡ table
   pub type : Has is_apart table (Own 40)
   pub time : Has is_apart table (Own 59)
   pub capacity : Has is_apart table (Own 47)
   pub written : have_written_lines table.items ≡ true
   pub there : (fields : List Field)
       → outline (message_in judge table fields) ≡ outline_of table.items
-  pub kind : RequestKind
-  pub its : asked42 kind ≡ table
   pub request : (f : RequestKind → Request) → asked table.letter f ≡ Some (f kind)
 
-each : (kind : RequestKind) → IsKnown (asked42 kind)
-each New = record {
-  own = refl;
-  type = refl;
-  time = refl;
-  capacity = refl;
-  written = refl;
-  there = λ fields. refl;
-  kind = New;
-  its = refl;
-  request = λ f. refl;
-}
-each kind = record {
-  own = refl;
-  type = refl;
-  time = refl;
-  capacity = refl;
-  written = refl;
-  there = λ fields. refl;
-  kind = kind;
-  its = refl;
-  request = λ f. refl;
-}
+each : (kind : RequestKind) → IsKnown (asked42 kind) kind
+each New = search
+each kind = search
 
-pub known : (table : Table Kind) → IsTable42 table → IsKnown table
-known table (msg_type, is) =
-    by_type (λ t of42 of50. of42 ≡ Some table → IsKnown table) (λ t no. absurd cc)
-    (λ kind e. let same : asked42 kind ≡ table = cc in
-    let P : Table Kind → Type 0 = λ t. IsKnown t in subst P same (each kind)) msg_type is
+pub asks : (table : Table Kind) → IsTable42 table → (kind : RequestKind) × IsKnown table kind
+asks table (msg_type, is) =
+    by_type (λ t of42 of50. of42 ≡ Some table → (kind : RequestKind) × IsKnown table kind)
+    (λ t no. absurd cc) (λ kind e. let same : asked42 kind ≡ table = cc in
+    let P : Table Kind → Type 0 = λ t. IsKnown t kind in (kind, subst P same (each kind)))
+    msg_type is
+
+pub known : (table : Table Kind) (is : IsTable42 table) → IsKnown table (asks table is).0
+known table is = (asks table is).1
 
 -- ---- what is put
 
@@ -82,7 +63,10 @@ module _ (s : Source) (is : IsTable42 (table_of s))
   abbrev m : Message
   m = message_in judge (table_of s) s.fields.now
 
-  abbrev k : IsKnown (table_of s)
+  abbrev kind : RequestKind
+  kind = (asks (table_of s) is).0
+
+  abbrev k : IsKnown (table_of s) kind
   k = known (table_of s) is
 
   said : AreSaid is_apart (table_of s) s.fields.now m
@@ -94,7 +78,7 @@ module _ (s : Source) (is : IsTable42 (table_of s))
   }
 
   lack42_is : up_lack m ≡ lack42 m
-  lack42_is = sym (lack_is k.kind m)
+  lack42_is = sym (lack_is kind m)
       ∙ sym (ap (λ r. r >>= lack_of) (k.request (λ kind. request_of kind m)))
 
   pub lack_told : first_of (rule_lack (λ tag. value_at tag s.fields.now)) up_rules ≡ lack42 m
@@ -113,7 +97,7 @@ module _ (s : Source) (is : IsTable42 (table_of s))
     has : AllByRecursion (IsRead is_apart (table_of s) (reading code (table_of s))) rules
     has = let P : Table Kind → Type 0 = λ t. AreRead code t rules in
         each_read is_apart (table_of s) (reading code (table_of s)) rules
-        (subst P k.its (read k.kind))
+        (subst P k.its (read kind))
 
     content_is : flat_map (all_write writes s) rules ≡ up_content m
     content_is = rules_written code s m said (own_goes s m said) rules has

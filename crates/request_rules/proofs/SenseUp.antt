@@ -1,13 +1,13 @@
 -- What goes up by the rules means what it meant.
-use Rattle.std.proofs.Common.{◌≡◌, ℕ, List, [], ◌∷◌, map, Bool, true, false, Option, Some, None, refl}
-use Rattle.std.proofs.Common.{sym, ap, subst, ◌∙◌, codes, unwrap_or, option_map, length}
+use Rattle.std.proofs.Common.{◌≡◌, ℕ, List, [], ◌∷◌, map, Bool, true, false, Option, Some, None}
+use Rattle.std.proofs.Common.{refl, sym, ap, subst, ◌∙◌, codes, unwrap_or, option_map, length}
 use Rattle.std.proofs.lemmas.Bool.{eqb-true}
 use Rattle.std.proofs.lemmas.List.{drop_at}
-use Rattle.std.specs.Prelude.{IfSome, ◌==◌, ◌||◌, if◌then◌else◌}
+use Rattle.std.specs.Prelude.{IfSome, ◌==◌, ◌||◌, if◌then◌else◌, is_some}
 use Rattle.std.specs.Str.Parse.{digits_value}
 use Rattle.value_kinds.specs.ValueKind.{number_of_two}
 use Rattle.message_tables.specs.Tables.{Place, Tag, Role, Said, Message, ◌>>=◌, code_of, flag_of}
-use Rattle.message_tables.specs.Tables.{Cell, lines_of, said_at, code_if}
+use Rattle.message_tables.specs.Tables.{Cell, lines_of, said_at, first_of, or_else}
 use Rattle.order_meaning.specs.Request.{Request, RequestKind, New, Cancel, Replace, Status}
 use Rattle.order_meaning.specs.Request.{OrderType, MarketOnClose, LimitOnClose, NeutralMaturity}
 use Rattle.row_values.specs.Amounts.{amount_of, alloc_of, session_of}
@@ -15,12 +15,14 @@ use Rattle.rows_fix42.specs.Meaning as meaning42
 use Rattle.rows_fix50.specs.Meaning as meaning50
 use Rattle.dict_fix42.specs.Sense as sense42
 use Rattle.dict_fix50.specs.Sense as sense50
-use Rattle.request_rules.specs.Rules.{at, date_up, kinds, time_up, type_up, up_message, up_rules}
-use Rattle.request_rules.specs.Lack.{lack_in, lack_of, lacks_time, lacks_capacity}
+use Rattle.request_rules.specs.Rules.{at, date_up, is_late, is_unlisted, kinds, time_up, type_up}
+use Rattle.request_rules.specs.Rules.{up_lack, up_message, up_rules}
+use Rattle.request_rules.specs.Lack.{lack_of}
 use Rattle.request_rules.specs.Up.{IsOrdinary, KeepsSense}
-use Rattle.rule_rows.specs.ByRules.{At, Grouped}
+use Rattle.rule_rows.specs.ByRules.{At, Grouped, lack_if}
 use Rattle.rule_rows.proofs.Looked as looked
 use Rattle.request_rules.proofs.KindsUp.{are_kinds, own}
+use Rattle.request_rules.proofs.LacksUp.{lack_is}
 
 -- ---- a maturity
 
@@ -59,15 +61,13 @@ module _ (time : Said) (other : IfSome (time >>= code_of) (λ code. (code == 55)
       by (Some code) = refl
 
   -- on close, with no other time
-  on_close : (type : OrderType) → ((t : ℕ) → lacks_time (Some type) (Some t) ≡ true)
-      → lacks_time (Some type) (meaning42.time_of true (time >>= code_of)) ≡ false
+  on_close : (type : OrderType) → is_some (meaning42.time_of true (time >>= code_of)) ≡ false
       → ◌≡◌ {A = Terms} (Some type, None) (Some type, meaning42.time_of true (time >>= code_of))
-  on_close type lacks h = by (meaning42.time_of true (time >>= code_of)) h
+  on_close type h = by (meaning42.time_of true (time >>= code_of)) h
     where
-      by : (t : Option ℕ) → lacks_time (Some type) t ≡ false
-          → ◌≡◌ {A = Terms} (Some type, None) (Some type, t)
+      by : (t : Option ℕ) → is_some t ≡ false → ◌≡◌ {A = Terms} (Some type, None) (Some type, t)
       by None h = refl
-      by (Some t) h = absurd (let l = lacks t in cc)
+      by (Some t) h = absurd cc
 
   -- not on close
   plain : (code : ℕ) → (code == 53) ≡ false → (code == 66) ≡ false
@@ -84,14 +84,13 @@ module _ (time : Said) (other : IfSome (time >>= code_of) (λ code. (code == 55)
       by None h = rw (five, b) refl
       by (Some t) h = rw (five, b, h) refl
 
-  one_code : (code : ℕ)
-      → lacks_time (terms42 (Some (code ∷ [])) time).0 (terms42 (Some (code ∷ [])) time).1 ≡ false
+  one_code : (code : ℕ) → is_late (Some code) (time >>= code_of) ≡ false
       → terms50 (type_up (Some (code ∷ []))) (time_up (Some (code ∷ [])) time)
       ≡ terms42 (Some (code ∷ [])) time
   one_code code h = by (code == 53) (code == 66) refl refl
     where
       P : ℕ → Type 0
-      P c = lacks_time (terms42 (Some (c ∷ [])) time).0 (terms42 (Some (c ∷ [])) time).1 ≡ false
+      P c = is_late (Some c) (time >>= code_of) ≡ false
           → terms50 (type_up (Some (c ∷ []))) (time_up (Some (c ∷ [])) time)
           ≡ terms42 (Some (c ∷ [])) time
 
@@ -105,14 +104,11 @@ module _ (time : Said) (other : IfSome (time >>= code_of) (λ code. (code == 55)
       by : (five b : Bool) → (code == 53) ≡ five → (code == 66) ≡ b
           → terms50 (type_up (Some (code ∷ []))) (time_up (Some (code ∷ [])) time)
           ≡ terms42 (Some (code ∷ [])) time
-      by true b e f =
-          subst P (sym (eqb-true code 53 e)) (λ l. on_close MarketOnClose (λ t. refl) l) h
-      by false true e f =
-          subst P (sym (eqb-true code 66 f)) (λ l. on_close LimitOnClose (λ t. refl) l) h
+      by true b e f = subst P (sym (eqb-true code 53 e)) (on_close MarketOnClose) h
+      by false true e f = subst P (sym (eqb-true code 66 f)) (on_close LimitOnClose) h
       by false false e f = left (code == 53) (code == 66) e f ∙ plain code e f
 
-  same_terms : (ord_type : Said)
-      → lacks_time (terms42 ord_type time).0 (terms42 ord_type time).1 ≡ false
+  same_terms : (ord_type : Said) → is_late (ord_type >>= code_of) (time >>= code_of) ≡ false
       → terms50 (type_up ord_type) (time_up ord_type time) ≡ terms42 ord_type time
   same_terms None h = no_type
   same_terms (Some []) h = no_type
@@ -168,16 +164,11 @@ request_by kind resend says lines inst mature term capacity = record {
   text = says (Tag 58);
 }
 
--- it lacks no time
-says_time : (ord_type : Option OrderType) (time capacity : Option ℕ)
-    → lack_in ord_type time capacity ≡ None → lacks_time ord_type time ≡ false
-says_time ord_type time capacity h = by (lacks_time ord_type time) (lacks_capacity capacity) h
-  where
-    by : (late lacks : Bool)
-        → ◌≡◌ {A = Option ℕ} (if late then Some 59 else (if lacks then Some 47 else None)) None
-        → late ≡ false
-    by true lacks h = absurd cc
-    by false lacks h = refl
+-- no rule lacks a time
+not_late : (late unlisted : Bool)
+    → or_else (lack_if late 59) (or_else (lack_if unlisted 47) None) ≡ None → late ≡ false
+not_late true unlisted h = absurd cc
+not_late false unlisted h = refl
 
 module _ (m : Message) where
   says : (place : Place) → said_at (up_message m).cells place
@@ -194,19 +185,19 @@ module _ (m : Message) where
   maturity h = (λ i. meaning50.maturity_of (says (Tag 200) i) (says (Tag 541) i))
       ∙ same_maturity (at m 200) (at m 205) h.month h.day
 
-  terms : IsOrdinary m → lacks_time (terms42 (at m 40) (at m 59)).0 (terms42 (at m 40) (at m 59)).1
-      ≡ false
+  terms : IsOrdinary m → up_lack m ≡ None
       → terms50 (at (up_message m) 40) (at (up_message m) 59) ≡ terms42 (at m 40) (at m 59)
-  terms h said = (λ i. terms50 (says (Tag 40) i) (says (Tag 59) i))
-      ∙ same_terms (at m 59) h.time (at m 40) said
+  unfolding first_of
+  terms h none = (λ i. terms50 (says (Tag 40) i) (says (Tag 59) i))
+      ∙ same_terms (at m 59) h.time (at m 40)
+      (not_late (is_late (at m 40 >>= code_of) (at m 59 >>= code_of))
+      (is_unlisted (codes "AIP") (at m 47 >>= code_of)) none)
 
   means : IsOrdinary m → (kind : RequestKind) → lack_of (sense42.request_of kind m) ≡ None
       → sense50.request_of kind (up_message m) ≡ sense42.request_of kind m
   means h kind lack =
-      let timed = says_time (terms42 (at m 40) (at m 59)).0 (terms42 (at m 40) (at m 59)).1
-      (code_if m.cells 47) lack in
       let mature = maturity h in
-      let term = terms h timed in
+      let term = terms h (sym (lack_is kind m) ∙ lack) in
       λ i. request_by kind m.resend (λ place. says place i) (λ count. has_lines_of count i)
       (says (Tag 21) i >>= code_of) (mature i) (term i) (says (Tag 528) i >>= code_of)
 

@@ -180,24 +180,13 @@ module _ (fields : List Field) (clear : AllByRecursion (IsClearField judge) fiel
   each : (x : Message) (kind : RequestKind) → message_by (Some (asked42 kind)) fields None ≡ Ok x
       → IsRequest42 x
   unfolding is_data_tag
-  each x New e = News (table_read 68 new_order (record {
-    rows = refl;
-    places = refl;
-    counts = refl;
-    plain = (allocs_apart, (sessions_apart, tt));
-  }) refl (allocs_plain, (sessions_plain, tt)) refl refl refl refl x e)
-  each x Cancel e = Cancels (table_read 70 cancel_request
-      (record { rows = refl; places = refl; counts = refl; plain = tt })
-      refl tt refl refl refl refl x e)
-  each x Replace e = Replaces (table_read 71 replace_request (record {
-    rows = refl;
-    places = refl;
-    counts = refl;
-    plain = (allocs_apart, (sessions_apart, tt));
-  }) refl (allocs_plain, (sessions_plain, tt)) refl refl refl refl x e)
-  each x Status e = Statuses (table_read 72 status_request
-      (record { rows = refl; places = refl; counts = refl; plain = tt })
-      refl tt refl refl refl refl x e)
+  each x New e = News (table_read 68 new_order (search (allocs_apart, sessions_apart)) refl
+      (allocs_plain, (sessions_plain, tt)) refl refl refl refl x e)
+  each x Cancel e = Cancels (table_read 70 cancel_request (search) refl tt refl refl refl refl x e)
+  each x Replace e = Replaces (table_read 71 replace_request
+      (search (allocs_apart, sessions_apart)) refl
+      (allocs_plain, (sessions_plain, tt)) refl refl refl refl x e)
+  each x Status e = Statuses (table_read 72 status_request (search) refl tt refl refl refl refl x e)
 
   -- WHAT IS READ IS SOUND.
   pub read_is_sound : (msg_type : List ℕ) (x : Message)

@@ -5,7 +5,7 @@ use Rattle.std.specs.Prelude.{IsSome, IfSome, not, ◌||◌, ◌==◌, Ok}
 use Rattle.std.specs.List.{list_any}
 use Rattle.std.proofs.lemmas.Bool.Decides.{nat_tests}
 use Rattle.field_groups.specs.Field.{Field, is_soh}
-use Rattle.value_kinds.specs.ValueKind.{Code, spelling, listed_word, is_code, OneByte, formed}
+use Rattle.value_kinds.specs.ValueKind.{Code, spelling, listed_word, is_code, OneByte}
 use Rattle.message_tables.specs.Tables.{Spells, Required, Lenient, Said, is_one_of, is_listed}
 use Rattle.message_tables.specs.Tables.{value_at, code_of, ◌>>=◌}
 use Rattle.row_values.specs.Kinds.{Value, Byte, TimeBeside, judge, verdict_of, counted, is_at_close}
@@ -116,16 +116,9 @@ pub one_byte : (fields : List Field) (text : List ℕ)
 unfolding judge spelling
 one_byte fields [] h = absurd cc
 one_byte fields (code ∷ []) h = (code, refl)
-one_byte fields (a ∷ b ∷ text) h = formed_two (length (a ∷ b ∷ text) == 1) long h
-  where
-    long : (length (a ∷ b ∷ text) == 1) ≡ false
-    long = grind (arith, nat_tests)
-
-    formed_two : (one : Bool) → one ≡ false
-        → verdict_of (formed one (a ∷ b ∷ text)) ≡ Spells (a ∷ b ∷ text)
-        → (code : ℕ) × (a ∷ b ∷ text ≡ code ∷ [])
-    formed_two true e h = absurd cc
-    formed_two false e h = absurd cc
+one_byte fields (a ∷ b ∷ text) h =
+    let long : (length (a ∷ b ∷ text) == 1) ≡ false = grind (arith, nat_tests) in
+    absurd (let no = rw long at h in cc)
 
 -- a code that is not unlisted
 pub listed_is : (listed : List ℕ) (code : Option ℕ) → is_unlisted listed code ≡ false

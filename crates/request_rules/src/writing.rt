@@ -44,6 +44,7 @@ fn is_on_close(ord_type: Option<u8>) -> bool
 }
 
 /// Appends OrdType(40): market and limit on close are market and limit, at the close.
+#[inline(always)]
 fn put_type(out: &mut Vec<u8>, ord_type: Option<&[u8]>) -> Appended
     ensures done { OnOk result (out.new.items ≡ out.old.items
         ++ body_of (cell_fields (Tag 40, type_up (option_map (λ t. t.now) ord_type.entry)))) }
@@ -57,6 +58,7 @@ fn put_type(out: &mut Vec<u8>, ord_type: Option<&[u8]>) -> Appended
 }
 
 /// Appends TimeInForce(59), by which FIX 5.0 SP2 says that an order is on close.
+#[inline(always)]
 fn put_time(out: &mut Vec<u8>, ord_type: Option<&[u8]>, time: Option<&[u8]>) -> Appended
     ensures done { OnOk result (out.new.items ≡ out.old.items ++ body_of (cell_fields (
       Tag 59,
@@ -113,6 +115,7 @@ fn count_of(id: Option<&[u8]>) -> usize
 }
 
 /// Appends the line of a party of a role, where there is an id for it.
+#[inline(always)]
 fn put_party(out: &mut Vec<u8>, id: Option<&[u8]>, role: u32) -> Appended
     ensures done { OnOk result (out.new.items ≡ out.old.items
         ++ body_of (party_fields role (option_map (λ t. t.now) id.entry))) }
@@ -129,6 +132,7 @@ fn put_party(out: &mut Vec<u8>, id: Option<&[u8]>, role: u32) -> Appended
 /// # Errors
 ///
 /// `AllocError` for want of memory; what stood in `out` stays, and a part may stand behind it.
+#[inline(always)]
 pub fn put_parties(
     out: &mut Vec<u8>,
     client: Option<&[u8]>,
@@ -190,6 +194,7 @@ impl OwnRule<()> for Own {
 
     ghost lacks = { lacks };
 
+    #[inline(always)]
     fn put(&self, source: &Source<'_, '_>, out: &mut Vec<u8>) -> Result<(), Lack> {
         let fields = source.fields;
         match self {

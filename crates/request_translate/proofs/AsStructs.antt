@@ -14,20 +14,21 @@ use Rattle.order_meaning.specs.declared.fault.Fault.{Fault}
 use Rattle.order_meaning.specs.declared.fault.Lack.{Lack}
 use Rattle.order_meaning.specs.declared.fault.Lack.TheVariants as reasons
 use Rattle.row_values.specs.Kinds.{Kind, judge}
-use Rattle.rows_fix42.specs.Header.{table}
 use Rattle.sound_laws.specs.Sound.{IsSound, without_resend}
+use Rattle.sound_laws.proofs.ContentAgain.{content_again, read_again}
 use Rattle.sound_laws.proofs.PlainFields.{AreFew, all_of, few_of, has_good_tags, most_of, times}
-use Rattle.dict_fix42.specs.Content.{content42}
+use Rattle.dict_fix42.specs.Content.{content42, table42}
 use Rattle.dict_fix42.specs.Message.{message42}
-use Rattle.dict_fix42.specs.Requests.{new_order, cancel_request, replace_request, status_request}
-use Rattle.dict_fix42.specs.Said.{says as says42, new_says, cancel_says, replace_says, status_says}
+use Rattle.dict_fix42.specs.Said.{says as says42}
 use Rattle.dict_fix42.specs.Sense.{request42}
 use Rattle.dict_fix42.specs.declared.requests.Msg42.{Msg42}
 use Rattle.dict_fix42.specs.declared.requests.Msg42.TheVariants as messages
+use Rattle.dict_fix50.specs.Content.{table50}
 use Rattle.dict_fix50.specs.Message.{message50}
 use Rattle.dict_fix50.specs.Said.{says as says50}
 use Rattle.dict_fix50.specs.Sense.{request50}
 use Rattle.dict_fix50.specs.declared.requests.Msg50.{Msg50}
+use Rattle.dict_fix50.specs.declared.requests.Msg50.TheVariants as messages50
 use Rattle.request_rules.specs.Canonical.{IsRequest}
 use Rattle.request_rules.specs.Good.{IsRead}
 use Rattle.request_rules.specs.Lack.{lack42}
@@ -35,9 +36,9 @@ use Rattle.request_rules.specs.Put.{IsPut, Lacks}
 use Rattle.request_rules.specs.Rules.{up_content, up_message}
 use Rattle.request_rules.specs.Up.{IsRequest42, News, Cancels, Replaces, Statuses}
 use Rattle.request_rules.proofs.GoUp.{go_up}
+use Rattle.request_translate.specs.Laws.{IsReadAgain42, IsReadAgain50}
 use Rattle.request_translate.specs.Up.{IsSound42}
 use Rattle.request_translate.proofs.AgainFields.{request_few}
-use Rattle.request_translate.proofs.WrittenAgain.{again42}
 
 -- few fields are split again
 few_again : (fields : List Field) → AreFew fields → SplitsInto (body_of fields) fields None
@@ -50,11 +51,23 @@ few42 t m good most sound = few_again (content t m) (few_of judge t m good most 
 
 split42 : (msg : Msg42) → IsSound42 msg → SplitsInto (body_of (content42 msg)) (content42 msg) None
 unfolding is_data_tag times
-split42 (messages.New m) s = few42 (table 68 new_order) (new_says m) refl (omega arith) s
-split42 (messages.Cancel m) s = few42 (table 70 cancel_request) (cancel_says m) refl (omega arith) s
-split42 (messages.Replace m) s =
-    few42 (table 71 replace_request) (replace_says m) refl (omega arith) s
-split42 (messages.Status m) s = few42 (table 72 status_request) (status_says m) refl (omega arith) s
+split42 (messages.New m) s =
+    few42 (table42 (messages.New m)) (says42 (messages.New m)) refl (omega arith) s
+split42 msg s = few42 (table42 msg) (says42 msg) refl (omega arith) s
+
+-- what is written of a sound request is read again, but for PossResend, which its content does not
+-- have
+pub again42 : (m : Msg42) → IsReadAgain42 m
+unfolding message42
+again42 (messages.New m) s =
+    read_again (table42 (messages.New m)) (says42 (messages.New m)) refl refl s
+again42 m s = read_again (table42 m) (says42 m) refl refl s
+
+pub again50 : (m : Msg50) → IsReadAgain50 m
+unfolding message50
+again50 (messages50.New m) s =
+    content_again (table50 (messages50.New m)) (says50 (messages50.New m)) refl refl s.sound s.month
+again50 m s = content_again (table50 m) (says50 m) refl refl s.sound s.month
 
 asked : (msg : Msg42) → IsSound42 msg → IsRequest42 (says42 msg)
 asked (messages.New m) s = News s
@@ -130,10 +143,13 @@ module _ (msg : Msg42) (sound : IsSound42 msg) (type body : List ℕ)
           let e = sym reads_as ∙ reads_up in cc in
           resent ∙ (λ i. record (same i) { resend = mine i })
 
-      pub means : request50 (says50 written) ≡ request42 m
-      means = ap request50 up_is ∙ (go_up m (asked msg sound) said).means
+-- what goes up means what the request means, and is canonical
+module _ (msg : Msg42) (sound : IsSound42 msg) (said : lack42 (says42 msg) ≡ None) (w : Message)
+    (is : w ≡ up_message (says42 msg)) where
+  pub means : request50 w ≡ request42 (says42 msg)
+  means = ap request50 is ∙ (go_up (says42 msg) (asked msg sound) said).means
 
-      pub canonical : IsRequest (says50 written) (up_content m)
-      canonical =
-          let P : Message → Type 0 = λ x. IsRequest x (up_content m) in
-          subst P (sym up_is) (go_up m (asked msg sound) said).request
+  pub canonical : IsRequest w (up_content (says42 msg))
+  canonical =
+      let P : Message → Type 0 = λ x. IsRequest x (up_content (says42 msg)) in
+      subst P (sym is) (go_up (says42 msg) (asked msg sound) said).request

@@ -28,7 +28,6 @@ use Rattle.value_kinds.specs.ValueKind.{Spelling, spelt, if_in_range}
 use Rattle.row_values.specs.Kinds.{judge}
 use Rattle.message_tables.specs.Tables.{Cell, Message, Tag, first_of}
 use Rattle.message_tables.specs.FirstFault.{first_fault, message_of}
-use Rattle.message_tables.specs.Content.{content}
 use Rattle.dict_fix42.specs.Message.{message42}
 use Rattle.request_translate.specs.Lack.{lack42}
 use Rattle.translation.specs.Header.{with_content}
@@ -270,16 +269,13 @@ party_fine : (client : Option (List ℕ))
     → IfSome client (IsValue Id) → AllByRecursion IsFine (client_party client)
 unfolding is_data_tag
 party_fine None v = tt
-party_fine (Some id) v =
-    given 453 (codes "1") refl refl (lit≤ tt) & fine 448 Id id refl refl v
-    & given 447 (codes "D") refl refl (lit≤ tt) & given 452 (codes "3") refl refl (lit≤ tt) & tt
+party_fine (Some id) v = search (arith, given, fine)
 
 terms_fine : (limit : Option (List ℕ))
     → IfSome limit (IsValue Price) → AllByRecursion IsFine (terms limit)
 unfolding is_data_tag
 terms_fine None v = given 40 (codes "1") refl refl (lit≤ tt) & tt
-terms_fine (Some price) v =
-    given 40 (codes "2") refl refl (lit≤ tt) & fine 44 Price price refl refl v & tt
+terms_fine (Some price) v = search (arith, given, fine)
 
 client_count : (client : Option (List ℕ))
     → (length (client_party client) ≤ 4) × (length (client_field client) ≤ 1)
@@ -302,18 +298,10 @@ module _ (o : PlainOrder) (v : HasPlainValues o) where
       ∷ (52, o.sending_time) ∷ (11, o.cl_ord_id) ∷ client ++ last_fields)
   unfolding is_data_tag
   all_fine client are =
-      given 35 (codes "D") refl refl (lit≤ tt)
-      & fine 49 Id o.sender_comp_id refl refl v.sender_comp_id
-      & fine 56 Id o.target_comp_id refl refl v.target_comp_id
-      & fine 34 Id o.msg_seq_num refl refl v.msg_seq_num
-      & fine 52 Id o.sending_time refl refl v.sending_time
-      & fine 11 Id o.cl_ord_id refl refl v.cl_ord_id
-      & each_joined IsFine client last_fields are
-      (fine 21 (Code (codes "123")) o.hand_inst refl refl v.hand_inst
-      & fine 55 Id o.symbol refl refl v.symbol
-      & fine 54 (Code (codes "123456")) o.side refl refl v.side
-      & fine 60 Stamp o.transact_time refl refl v.transact_time
-      & fine 38 Qty o.order_qty refl refl v.order_qty & terms_fine o.limit v.limit)
+      let last : AllByRecursion IsFine last_fields =
+      search (arith, given, fine, terms_fine o.limit v.limit) parts 20 in
+      let rest = each_joined IsFine client last_fields are last in
+      search (arith, given, fine, rest) parts 20
 
   up_fine : AllByRecursion IsFine (translated_fields o)
   up_fine = all_fine (client_party o.client_id) (party_fine o.client_id v.client_id)

@@ -1,6 +1,6 @@
 -- What a message of FIX 5.0 SP2 means lacks no spelling there.
 use Rattle.std.proofs.Common.{◌≡◌, ℕ, List, [], ◌∷◌, Bool, true, false, Option, Some, None, IfSome}
-use Rattle.std.proofs.Common.{refl, ap, codes, if◌then◌else◌, ◌==◌}
+use Rattle.std.proofs.Common.{refl, ap, subst, codes, if◌then◌else◌, ◌==◌}
 use Rattle.std.specs.Prelude.{Result, not}
 use Rattle.std.specs.Result.{result_ok}
 use Rattle.value_kinds.specs.ValueKind.{spelling, OneByte}
@@ -10,16 +10,20 @@ use Rattle.message_tables.specs.Tables.{Verdict, Spells, Table, Message, Lenient
 use Rattle.message_tables.specs.Tables.{◌>>=◌, says, value_at, text_of, code_of, code_if, is_one_of}
 use Rattle.message_tables.specs.FirstFault.{unless, first_fault, message_in, message_of}
 use Rattle.order_meaning.specs.declared.fault.Fault.{Fault}
+use Rattle.order_meaning.specs.declared.fault.Lack.{Lack}
+use Rattle.order_meaning.specs.declared.fault.Lack.TheVariants as lacks
 use Rattle.order_meaning.specs.Request.{Request, RequestKind, New, Replace, OrderType, Market}
 use Rattle.row_values.specs.Kinds.{Kind, judge, Byte, counted, verdict_of}
+use Rattle.dict_fix42.specs.Sense.{request42}
 use Rattle.dict_fix50.specs.Message.{message50, message50_by}
 use Rattle.rows_fix50.specs.Header.{completed, completed_by}
 use Rattle.first_faults.specs.Faults.{told}
 use Rattle.dict_fix50.specs.Sense.{sense50, request50, request_of}
 use Rattle.rows_fix50.specs.Meaning.{terms_of}
+use Rattle.request_rules.specs.Put.{Lacks}
 use Rattle.request_rules.proofs.ByType.{asked50, by_type}
 use Rattle.request_rules.proofs.LacksUp.{plain}
-use Rattle.request_translate.specs.Lack.{lacks_time, lacks_capacity, lack_in, lack_of}
+use Rattle.request_translate.specs.Lack.{lacks_time, lacks_capacity, lack_of, IsLackOf}
 use Rattle.request_translate.specs.Laws.{LacksNothing}
 
 -- what is told of a message of FIX 5.0 SP2, or of its first fault
@@ -75,25 +79,11 @@ capacity_lacks_nothing fields (Some (byte ∷ [])) =
 capacity_lacks_nothing fields (Some (byte ∷ again ∷ bytes)) =
     outside (verdict_of (spelling OneByte (byte ∷ again ∷ bytes)))
 
-abbrev tag_of : Bool → Bool → Option ℕ
-tag_of time capacity = if time then Some 59 else (if capacity then Some 47 else None)
-
-by_tests : (time capacity : Bool) → time ≡ false → capacity ≡ false → tag_of time capacity ≡ None
-by_tests false false e f = refl
-by_tests other capacity e f = absurd cc
-
-by_parts : (ord_type : Option OrderType) (time capacity : Option ℕ)
-    → lacks_time ord_type time ≡ false → lacks_capacity capacity ≡ false →
-    lack_in ord_type time capacity ≡ None
-by_parts ord_type time capacity on_close code =
-    by_tests (lacks_time ord_type time) (lacks_capacity capacity) on_close code
-
 -- what a message means lacks nothing, where its capacity does not
 of_message : (kind : RequestKind) (m : Message)
     → lacks_capacity (code_if m.cells 528) ≡ false → lack_of (request_of kind m) ≡ None
-of_message kind m h = by_parts (terms_of (code_if m.cells 40) (code_if m.cells 59)).0
-    (terms_of (code_if m.cells 40) (code_if m.cells 59)).1
-    (code_if m.cells 528) (terms_lack_nothing (code_if m.cells 40) (code_if m.cells 59)) h
+of_message kind m h =
+    rw (terms_lack_nothing (code_if m.cells 40) (code_if m.cells 59), h) refl
 
 each : (fields : List Field) (kind : RequestKind)
     → IsSayable (request50 (completed (message_in judge (asked50 kind) fields)))
@@ -120,3 +110,18 @@ unfolding sense50 message50
 sayable msg_type fields =
     by_type (λ t of42 of50. IsSayable (result_ok (message50_by of50 fields None) >>= request50))
     (λ t. tt) (λ kind. by_message (asked50 kind) fields (each fields kind)) msg_type
+
+-- ---- what lacks a spelling is what no message of FIX 5.0 SP2 means
+
+no_spelling : (request : Option Request) (tag : ℕ)
+    → request >>= lack_of ≡ Some tag → IsSayable request → ⊥
+no_spelling None tag e h = absurd cc
+no_spelling (Some request) tag e h = absurd cc
+
+pub lack_is : (m : Message) (lack : Lack) → Lacks m lack → IsLackOf m lack
+lack_is m lacks.NoMemory h = tt
+lack_is m (lacks.Tag tag) h = (
+  h,
+  λ msg_type fields e. no_spelling (request42 m) tag h
+      (let P : Option Request → Type 0 = λ r. IsSayable r in subst P e (sayable msg_type fields)),
+)

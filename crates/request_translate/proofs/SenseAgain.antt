@@ -6,7 +6,6 @@ use Rattle.std.specs.Option.{option_map}
 use Rattle.std.specs.Result.{result_ok}
 use Rattle.std.specs.List.{AllByRecursion}
 use Rattle.request_rules.proofs.ByType.{asked42, asked50, by_type, items42, items50, letter_of}
-use Rattle.value_kinds.specs.ValueKind.{Filled, Flag}
 use Rattle.field_groups.specs.Field.{Field}
 use Rattle.message_tables.specs.Tables.{Item, Table, Message, Said, ◌>>=◌, flag_of, value_at}
 use Rattle.message_tables.specs.FirstFault.{first_fault, message_in, message_of}
@@ -16,13 +15,12 @@ use Rattle.order_meaning.specs.declared.fault.Fault.{Fault}
 use Rattle.rows_fix42.specs.Header as header42
 use Rattle.dict_fix42.specs.Message as read42
 use Rattle.dict_fix42.specs.Sense.{sense42, request42}
-use Rattle.row_values.specs.Kinds.{Kind, Version, judge}
+use Rattle.row_values.specs.Kinds.{Kind, judge}
 use Rattle.first_faults.specs.Faults as row_faults
 use Rattle.dict_fix50.specs.Message as read50
 use Rattle.rows_fix50.specs.Header.{table, completed_by}
 use Rattle.dict_fix50.specs.Sense.{sense50, request50}
 use Rattle.sound_laws.proofs.Completed.{completed_again}
-use Rattle.sound_laws.proofs.Each.{◌&◌}
 use Rattle.sound_laws.proofs.Lookups.{places_apart}
 use Rattle.sound_laws.proofs.PlainRows.{of_message}
 use Rattle.sound_laws.proofs.ReadSound.{IsClearField}
@@ -58,23 +56,7 @@ module _ (msg_type : List ℕ) (fields : List Field) (r : Message) where
 
   header_said : IsOwnHead msg_type fields → (letter : ℕ) (items : List (Item Kind))
       → IsHead (table letter items) values r
-  header_said own letter items =
-      own_said _ 35 Filled _ own.kind
-      & optional_said _ 1128 Version None tt tt
-      & own_said _ 49 Filled _ own.sender
-      & own_said _ 56 Filled _ own.target
-      & own_said _ 34 Filled _ own.number
-      & own_said _ 43 Filled _ own.dup
-      & own_said _ 97 Flag _ own.resend
-      & own_said _ 52 Filled _ own.time
-      & own_said _ 122 Filled _ own.first_time
-      & own_said _ 50 Filled None tt
-      & own_said _ 57 Filled None tt
-      & own_said _ 142 Filled None tt
-      & own_said _ 143 Filled None tt
-      & own_said _ 347 Filled None tt
-      & own_said _ 369 Filled None tt
-      & tt
+  header_said own letter items = search (own_said, optional_said) parts 20
 
   pub read_by : IsOwnHead msg_type fields → (letter : ℕ) (items : List (Item Kind))
       → IsBehind letter items → Fits letter items → IsCanonical letter items r
@@ -93,15 +75,7 @@ module _ (msg_type : List ℕ) (fields : List Field) (r : Message) where
 -- ---- what the fields of FIX 4.2 say of the header
 
 pub has_header : (letter : ℕ) (items : List (Item Kind)) → HasHeader (header42.table letter items)
-has_header letter items = record {
-  sender = refl;
-  target = refl;
-  number = refl;
-  dup = refl;
-  resend = refl;
-  time = refl;
-  first_time = refl;
-}
+has_header letter items = search
 
 -- a message of FIX 4.2 that was read
 record Read42 (table : Table Kind) (fields : List Field) (x : Message) : Type 0 where
@@ -118,20 +92,6 @@ read_of table fields = of_message table fields (Read42 table fields)
 module _ (msg_type : List ℕ) (fields : List Field) (x r : Message) (is_type : IsType msg_type)
     (clear : AllByRecursion (IsClearField judge) fields) (means : request50 r ≡ request42 x)
     (resend : r.resend ≡ x.resend) where
-  -- one of the four tables of each version
-  one_table : (letter letter42 : ℕ) (items items42 : List (Item Kind))
-      → IsBehind msg_type fields r letter items → Fits msg_type fields r letter items
-      → IsCanonical letter items r → Read42 (header42.table letter42 items42) fields x →
-      result_ok (told50 (message_of judge (table letter items) (up_fields_of
-      msg_type fields (content (table letter items) r)))) >>= request50 ≡ request42 x
-  one_table letter letter42 items items42 behind fit c read =
-      let flag : x.resend ≡ unwrap_or (option_map flag_of (value_at 97 fields)) false =
-      ap (λ (y : Message). y.resend) (sym read.is) in
-      let own = head_is_own (header42.table letter42 items42) fields read.good clear msg_type
-      is_type (has_header letter42 items42) in
-      ap (λ (y : Result Message Fault). result_ok y >>= request50)
-      (read_by msg_type fields r own letter items behind fit c (resend ∙ flag)) ∙ means
-
   -- what was asked for is what is asked for
   one_kind : (kind : RequestKind)
       → IsBehind msg_type fields r (letter_of kind) (items50 kind)
@@ -151,12 +111,16 @@ module _ (msg_type : List ℕ) (fields : List Field) (x r : Message) (is_type : 
       let same : own.0 ≡ kind = cc in
       let Q : RequestKind → Type 0 = λ k. IsOfKind r written k in
       let of : IsOfKind r written kind = subst Q same own.1 in
+      let flag : x.resend ≡ unwrap_or (option_map flag_of (value_at 97 fields)) false =
+      ap (λ (y : Message). y.resend) (sym read.is) in
+      let head = head_is_own (asked42 kind) fields read.good clear msg_type is_type
+      (has_header (letter_of kind) (items42 kind)) in
       let P : List Field → Type 0 = λ fs. result_ok (told50
       (message_of judge (asked50 kind) (up_fields_of msg_type fields fs)))
       >>= request50 ≡ request42 x in
-      subst P (sym of.is)
-      (one_table (letter_of kind) (letter_of kind) (items50 kind) (items42 kind) behind fit
-      of.canonical read)
+      subst P (sym of.is) (ap (λ (y : Result Message Fault). result_ok y >>= request50)
+      (read_by msg_type fields r head (letter_of kind) (items50 kind) behind fit of.canonical
+      (resend ∙ flag)) ∙ means)
 
   -- A REQUEST IS READ AGAIN with the sense that it had.
   each : (written : List Field) → IsRequest r written → (kind : RequestKind)

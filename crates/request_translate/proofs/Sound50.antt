@@ -17,6 +17,16 @@ use Rattle.sound_laws.proofs.PlainRows.{allocs_apart, sessions_apart}
 use Rattle.sound_laws.proofs.ReadSound.{IsClearField}
 use Rattle.sound_laws.proofs.ReadComplete.{IsDated, dated_complete, untyped}
 
+ruleset groups = (
+  parties_apart,
+  allocs_apart,
+  sessions_apart,
+  parties_plain,
+  allocs_plain,
+  sessions_plain,
+  untyped,
+)
+
 abbrev has_type : RequestKind → Bool
 has_type New = true
 has_type Replace = true
@@ -27,37 +37,15 @@ module _ (fields : List Field) (clear : AllByRecursion (IsClearField judge) fiel
   -- what is known of the tables, of which those of orders have an OrdType
   dated : (kind : RequestKind) → IsDated fields (asked50 kind) (has_type kind)
   unfolding is_data_tag
-  dated New = record {
+  dated New = search groups
+  dated Replace = search groups
+  dated kind = record {
     fits = refl;
-    apart = (parties_apart, (allocs_apart, (sessions_apart, tt)));
-    plain = (parties_plain, (allocs_plain, (sessions_plain, tt)));
-    date = refl;
-    types = λ there. (refl, refl);
-    kept = untyped fields (asked50 New) refl;
-  }
-  dated Cancel = record {
-    fits = refl;
-    apart = (parties_apart, tt);
-    plain = (parties_plain, tt);
+    apart = search groups;
+    plain = search groups;
     date = refl;
     types = λ untrue. absurd cc;
-    kept = untyped fields (asked50 Cancel) refl;
-  }
-  dated Replace = record {
-    fits = refl;
-    apart = (parties_apart, (allocs_apart, (sessions_apart, tt)));
-    plain = (parties_plain, (allocs_plain, (sessions_plain, tt)));
-    date = refl;
-    types = λ there. (refl, refl);
-    kept = untyped fields (asked50 Replace) refl;
-  }
-  dated Status = record {
-    fits = refl;
-    apart = (parties_apart, tt);
-    plain = (parties_plain, tt);
-    date = refl;
-    types = λ untrue. absurd cc;
-    kept = untyped fields (asked50 Status) refl;
+    kept = search groups;
   }
 
   complete : (kind : RequestKind) (x : Message)

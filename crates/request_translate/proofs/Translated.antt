@@ -1,10 +1,10 @@
 -- What goes up keeps what the way up owes, and what a check answers.
-use Rattle.std.proofs.Common.{ℕ, List, Option, None, subst, ◌≡◌, Some, refl}
-use Rattle.std.specs.Prelude.{IfErr, OnOk, Result, Ok, Err}
+use Rattle.std.proofs.Common.{ℕ, List, Option, None, subst, ◌≡◌, Some, refl, true, sym, ap, ◌∙◌}
+use Rattle.std.specs.Prelude.{IfErr, OnOk, Result, Ok, Err, IsTrue, is_some}
 use Rattle.field_groups.specs.declared.fault.SplitFault.{SplitFault}
 use Rattle.field_groups.specs.Field.{Field}
 use Rattle.field_groups.specs.Fields.{SplitsInto}
-use Rattle.message_tables.specs.Tables.{Message}
+use Rattle.message_tables.specs.Tables.{Message, ◌>>=◌}
 use Rattle.row_values.specs.Kinds.{judge}
 use Rattle.sound_laws.proofs.PlainFields.{clear_fields}
 use Rattle.rule_rows.specs.ByRules.{or_lack}
@@ -18,9 +18,17 @@ use Rattle.request_rules.specs.Lack.{lack42}
 use Rattle.request_rules.specs.Rules.{up_content, up_message}
 use Rattle.request_rules.proofs.GoUp.{read_go_up}
 use Rattle.request_translate.specs.Translation.{IsRefusedByCheck, up}
-use Rattle.request_translate.proofs.AgainFields.{split_again}
+use Rattle.request_translate.proofs.AgainFields.{split_again, of_kind}
 use Rattle.request_translate.proofs.SenseAgain.{same_sense}
 use Rattle.request_translate.proofs.Writable.{type_is}
+use Rattle.std.specs.Option.{option_map}
+use Rattle.std.specs.Result.{result_ok}
+use Rattle.frame_grammar.specs.declared.frame.Kind.TheVariants.{Fix42}
+use Rattle.order_meaning.specs.Request.{Request, RequestKind}
+use Rattle.dict_fix42.specs.Sense.{sense42, request42}
+use Rattle.dict_fix50.specs.Sense.{sense50}
+use Rattle.translation.proofs.Kept as frames
+use Rattle.request_translate.specs.Laws.{FramesKeepSense}
 
 -- what lacks nothing goes up
 not_lacking : (lack : Option ℕ) (m w : Message) → or_lack lack m ≡ Ok w → (lack ≡ None) × (m ≡ w)
@@ -67,3 +75,24 @@ module _ (body : List ℕ) (fields : List Field) (stopped : Option SplitFault)
       → IfErr r (StayBack up fields stopped) → IfErr r (IsRefusedByCheck body)
   refused_by_check (Ok done) h = tt
   refused_by_check (Err error) h = by_check error h
+
+-- ---- a frame and its translation mean the same, however they are read
+
+some_of : (o : Option Request) (kind : RequestKind)
+    → option_map (λ (r : Request). r.kind) o ≡ Some kind → is_some o ≡ true
+some_of None kind e = absurd cc
+some_of (Some r) kind e = refl
+
+-- what a body means is a request
+means_some : (body : List ℕ) (fields : List Field) → Goes up body fields
+    → is_some (sense42 (type_of fields) fields) ≡ true
+unfolding sense42
+means_some body fields g =
+    ap (λ (r : _). is_some (result_ok r >>= request42)) g.read.read ∙ ap is_some (sym g.kept.means)
+    ∙ some_of _ _ (of_kind g.other (up_content g.read.message) g.kept.canonical).1.asks
+
+pub frames_keep : FramesKeepSense
+frames_keep = frames.frames_keep up Fix42
+    (λ fields read. (sense50 (type_of read) read ≡ sense42 (type_of fields) fields)
+    × IsTrue (is_some (sense42 (type_of fields) fields)))
+    (λ body fields g. (g.kept.same, means_some body fields g))

@@ -25,20 +25,7 @@ order = record {
 its_values : HasPlainValues order
 unfolding spelling are_digits number_of has_pattern without_leading_zeros
     without_trailing_zeros digits zero_padded
-its_values = record {
-  sender_comp_id = record { spelled = refl; clear = refl };
-  target_comp_id = record { spelled = refl; clear = refl };
-  msg_seq_num = record { spelled = refl; clear = refl };
-  sending_time = record { spelled = refl; clear = refl };
-  cl_ord_id = record { spelled = refl; clear = refl };
-  client_id = record { spelled = refl; clear = refl };
-  hand_inst = record { spelled = refl; clear = refl };
-  symbol = record { spelled = refl; clear = refl };
-  side = record { spelled = refl; clear = refl };
-  transact_time = record { spelled = refl; clear = refl };
-  order_qty = record { spelled = refl; clear = refl };
-  limit = record { spelled = refl; clear = refl };
-}
+its_values = search
 
 its_translation : translated_fields order
     ≡ (35, codes "D") ∷ (49, codes "CLNT") ∷ (56, codes "GATE") ∷ (34, codes "2") ∷

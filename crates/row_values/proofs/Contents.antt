@@ -1,15 +1,15 @@
 -- The bytes of contents, a part and a line at a time.
-use Rattle.std.proofs.Common.{◌≡◌, ℕ, ◌+◌, List, [], ◌∷◌, ◌++◌, length, map, refl, sym, ap, ◌∙◌}
-use Rattle.std.proofs.Common.{append_assoc, arith, ◌≤◌, take}
+use Rattle.std.proofs.Common.{◌≡◌, ℕ, List, [], ◌∷◌, ◌++◌, length, map, refl, sym, ap, ◌∙◌}
+use Rattle.std.proofs.Common.{append-nil, append_assoc, arith, ◌≤◌, take}
 use Rattle.std.proofs.lemmas.List.{length-append, length-map, take-take, take_all}
 use Rattle.std.proofs.Math.Seq.{take-append_seam}
-use Rattle.std.specs.Prelude.{Result, Ok}
+use Rattle.std.specs.Prelude.{Result, Ok, Err, IfOk, OnErr}
 use Rattle.std.specs.Option.{option_map}
 use Rattle.std.specs.Result.{result_ok}
 use Rattle.std.specs.Io.{StartsWith}
 use Rattle.typed_fields.specs.declared.dec.Dec.{Dec}
 use Rattle.typed_fields.specs.declared.fault.FieldFault.{FieldFault}
-use Rattle.typed_fields.specs.Dec.{dec_text, read_dec}
+use Rattle.typed_fields.specs.Dec.{dec_text}
 use Rattle.std.specs.List.{flat_map}
 use Rattle.std.specs.Fmt.{decimal}
 use Rattle.field_groups.specs.Field.{Field, body_of, field_bytes}
@@ -59,22 +59,25 @@ group_done {L} cells tag old out lines now i h le same =
     ∙ ap (λ (bytes : List ℕ). old ++ bytes) (group_written cells tag lines)
     ∙ ap (λ (ls : List L). old ++ body_of (group_fields tag (map cells ls))) same
 
--- the field of a number that was read, once its tag, its spelling and SOH are appended
-pub dec_appended : (tag : ℕ) (value before tagged spelled out : List ℕ) (dec : Dec)
-    → read_dec value ≡ Ok dec → tagged ≡ before ++ decimal tag ++ 61 ∷ []
-    → spelled ≡ tagged ++ dec_text dec → out ≡ spelled ++ 1 ∷ []
-    → out ≡ before
-    ++ body_of (cell_fields (Tag tag, option_map dec_text (result_ok (read_dec value))))
-dec_appended tag value before tagged spelled out dec is begun done ended =
+-- the field of a number that was read, once its tag, its spelling and SOH are appended, or, where
+-- none was read, once it is cut off
+pub dec_ended : (tag start : ℕ) (read : Result Dec FieldFault) (before tagged out : List ℕ)
+    → start ≡ length before → tagged ≡ before ++ decimal tag ++ 61 ∷ []
+    → IfOk read (λ dec. out ≡ (tagged ++ dec_text dec) ++ 1 ∷ [])
+    → OnErr read (out ≡ take start tagged)
+    → out ≡ before ++ body_of (cell_fields (Tag tag, option_map dec_text (result_ok read)))
+dec_ended tag start (Ok dec) before tagged out from begun ended cut =
     let text = dec_text dec in
     let last = text ++ 1 ∷ [] in
-    ended ∙ ap (λ (l : List ℕ). l ++ 1 ∷ []) (done ∙ ap (λ (l : List ℕ). l ++ text) begun)
+    ended ∙ ap (λ (l : List ℕ). (l ++ text) ++ 1 ∷ []) begun
     ∙ append_assoc (before ++ decimal tag ++ 61 ∷ []) text (1 ∷ [])
     ∙ append_assoc (before ++ decimal tag) (61 ∷ []) last
     ∙ append_assoc before (decimal tag) (61 ∷ last)
     ∙ ap (λ (l : List ℕ). before ++ l) (sym (field_apart (tag, text) []))
-    ∙ ap (λ (r : Result Dec FieldFault).
-    before ++ body_of (cell_fields (Tag tag, option_map dec_text (result_ok r)))) (sym is)
+dec_ended tag start (Err fault) before tagged out from begun ended cut =
+    cut ∙ ap (λ (n : ℕ). take n tagged) from
+    ∙ ap (take (length before)) (begun ∙ append_assoc before (decimal tag) (61 ∷ []))
+    ∙ take-append_seam before (decimal tag ++ 61 ∷ []) ∙ sym (append-nil before)
 
 -- what stood in front is kept where all that stood before a later step is
 pub still_kept : (old more new : List ℕ)

@@ -2,6 +2,7 @@ pub mod Marks
 pub mod Texts
 pub mod LineByLine
 pub mod Contents
+pub mod ReadRows
 pub mod SaidRows
 pub mod ByTable
 pub mod Days

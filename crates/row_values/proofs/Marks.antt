@@ -4,7 +4,7 @@ use Rattle.std.specs.Prelude.{Some, None, Ok, Err, is_some, if◌then◌else◌,
 use Rattle.std.specs.declared.option.Option.{Option}
 use Rattle.std.specs.Option.{option_map}
 use Rattle.std.specs.List.{list_any}
-use Rattle.value_kinds.specs.CodeKinds.{judged}
+use Rattle.value_kinds.specs.CodeKinds.{is_good as is_judged, judged}
 use Rattle.value_kinds.specs.ValueKind.{code_text, two_digit_text}
 use Rattle.value_kinds.specs.ValueKind.{Spelling, Code, MonthYear, is_code, listed_word, spelling}
 use Rattle.value_kinds.specs.ValueKind.{spelled, text_of as spelled_text, number_of_two}
@@ -14,6 +14,7 @@ use Rattle.message_tables.specs.declared.table_fault.Mark.{Mark}
 use Rattle.message_tables.specs.declared.table_fault.Mark.TheVariants as marks
 use Rattle.message_tables.specs.Tables.{Said, Verdict, Spells, Outside, Wrong}
 use Rattle.message_tables.specs.FirstFault.{mark_of}
+use Rattle.message_tables.specs.Plain.{is_good}
 use Rattle.row_values.specs.Kinds.{counted, filled, if_spelled, in_month, month_beside, verdict_of}
 use Rattle.row_values.proofs.Texts.{date_said}
 use Rattle.typed_fields.specs.declared.month_year.MonthYear.{MonthYear as MonthValue}
@@ -23,6 +24,12 @@ pub mark_judged : (s : Spelling) → judged_mark (judged s) ≡ mark_of (verdict
 mark_judged (Ok (Some text)) = refl
 mark_judged (Ok None) = refl
 mark_judged (Err fault) = refl
+
+-- a value is accepted exactly where its mark is good
+pub accepted : (s : Spelling) → is_judged (judged s) ≡ is_good (mark_of (verdict_of s))
+accepted (Ok (Some text)) = refl
+accepted (Ok None) = refl
+accepted (Err fault) = refl
 
 pub counted_marked : (counts : Bool) (v : Verdict)
     → counted_mark counts (mark_of v) ≡ mark_of (counted counts v)

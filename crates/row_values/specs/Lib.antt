@@ -5,6 +5,7 @@ pub mod Columns
 pub mod CodeKinds
 pub mod Writing
 pub mod Maturity
+pub mod ReadRows
 pub mod Contras
 pub mod Amounts
 pub mod Phases

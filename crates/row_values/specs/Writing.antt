@@ -2,7 +2,6 @@
 use Rattle.std.specs.Prelude.{ℕ, zero, suc, List, [], ◌∷◌, map, Some, IfSome, option_and_then}
 use Rattle.std.specs.Option.{option_map}
 use Rattle.std.specs.Fmt.{decimal}
-use Rattle.typed_fields.specs.declared.dec.Dec.{Dec}
 use Rattle.typed_fields.specs.Dec.{dec_text, IsDec}
 use Rattle.typed_fields.specs.Day.{day_text, IsDay}
 use Rattle.typed_fields.specs.Stamp.{stamp_text, IsStamp}

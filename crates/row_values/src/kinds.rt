@@ -4,6 +4,7 @@ ghost use Rattle.std.specs.Prelude.{◌≡◌, ◌≤◌, ◌||◌, not, codes, 
 ghost use Rattle.std.specs.Prelude.{IfSome};
 ghost use Rattle.std.specs.Str.{bytes_eq};
 ghost use Rattle.message_tables.specs.FirstFault.{mark_of};
+ghost use Rattle.message_tables.specs.Plain.{is_good};
 ghost use Rattle.message_tables.specs.Tables.{Said, Spells, Wrong};
 ghost use Rattle.value_kinds.specs.ValueKind as kinds;
 ghost use Rattle.value_kinds.specs.ValueKind.{is_code, spelling};
@@ -84,6 +85,17 @@ fn judge_value(kind: &ValueKind, value: &[u8]) -> Mark
     ensures { result ≡ mark_of (verdict_of (spelling (value_kind_of kind.now) value.now)) }
 {
     mark_of(kind.judge(value))
+}
+
+/// Whether a value is good.
+#[inline(always)]
+fn is_good(mark: Mark) -> bool
+    ensures { result ≡ is_good mark }
+{
+    match mark {
+        Mark::Good => true,
+        _ => false,
+    }
 }
 
 /// What a day is that a month has or lacks.
@@ -198,6 +210,18 @@ impl Kind {
         match self {
             Kind::Value(kind) => judge_value(kind, bytes),
             _ => self.judge_beside(fields, bytes),
+        }
+    }
+
+    /// Whether a value is good, as `judge` marks it.
+    #[inline(always)]
+    #[tactic(auto, using(crate::proofs::Marks::accepted), unfolding(crate::specs::Kinds::judge))]
+    pub fn accepts(&self, fields: &Fields<'_>, bytes: &[u8]) -> bool
+        ensures { result ≡ is_good (mark_of (judge fields.now (kind_of self.now) bytes.now)) }
+    {
+        match self {
+            Kind::Value(kind) => kind.accepts(bytes),
+            _ => is_good(self.judge_beside(fields, bytes)),
         }
     }
 

@@ -1,6 +1,7 @@
 //! Writing contents: each row of a table is a part.
 
-ghost use Rattle.std.specs.Prelude.{◌≡◌, ◌≤◌, ◌++◌, [], map, IfSome, OnErr, OnOk, option_and_then};
+ghost use Rattle.std.specs.Prelude.{◌≡◌, ◌+◌, ◌<◌, ◌≤◌, ◌++◌, ◌∷◌, [], map, take, IfOk, IfSome};
+ghost use Rattle.std.specs.Prelude.{OnErr, OnOk, option_and_then, vec_capacity, vec_len};
 ghost use Rattle.std.specs.List.{AllByRecursion, flat_map};
 ghost use Rattle.std.specs.Option.{option_map};
 ghost use Rattle.std.specs.Io.{StartsWith};
@@ -18,7 +19,7 @@ ghost use Rattle.row_values.specs.Writing.{part_fields, value_text};
 
 use crate::contras::Contras;
 use crate::lines::{Allocs, GroupLine, Maturity, Sessions};
-use field_groups::{AROUND, SOH, push_tag, put_byte, put_field, put_number, put_tag};
+use field_groups::{AROUND, SOH, has_room, push_tag, put_byte, put_field, put_number, put_tag};
 use order_meaning::{Bytes, GroupLines, Lines};
 use std::alloc::AllocError;
 use typed_fields::{Day, Dec, FieldValue, Flag, MAX_SPELLING, MonthYear, Number, Stamp};
@@ -228,25 +229,63 @@ fn put_row(out: &mut Vec<u8>, tag: u32, value: &Value<'_>) -> Appended
     }
 }
 
+/// Ends a field by the decimal number that a value spells, where there is room for it. If it spells
+/// none, the field is cut off, which begins at this place.
+#[inline(never)]
+fn end_dec(out: &mut Vec<u8>, start: usize, value: &[u8])
+    requires room { vec_len out.old + MAX_SPELLING < vec_capacity out.old }
+    ensures ok { IfOk (read_dec value.now)
+        (λ dec. out.new.items ≡ (out.old.items ++ dec_text dec) ++ SOH ∷ []) }
+    ensures err { OnErr (read_dec value.now) (out.new.items ≡ take start out.old.items) }
+{
+    match Dec::respell(value, out) {
+        Ok(()) => out.push_reserved(SOH),
+        Err(_) => out.truncate(start),
+    }
+}
+
+/// Appends a field of the decimal number that a value spells, if it spells one, where there is
+/// room.
+#[inline(always)]
+fn push_dec(out: &mut Vec<u8>, tag: u32, value: &[u8])
+    requires { vec_len out.old + (AROUND + MAX_SPELLING) ≤ vec_capacity out.old }
+    ensures { out.new.items ≡ out.old.items
+        ++ body_of (cell_fields (Tag tag, option_map dec_text (result_ok (read_dec value.now)))) }
+{
+    let start = out.len();
+    push_tag(out, tag);
+    end_dec(out, start, value)
+}
+
+/// Appends a field of the decimal number that a value spells, if it spells one. Room is made.
+#[inline(never)]
+fn put_grown(out: &mut Vec<u8>, tag: u32, value: &[u8]) -> Appended
+    ensures done { OnOk result (out.new.items ≡ out.old.items
+        ++ body_of (cell_fields (Tag tag, option_map dec_text (result_ok (read_dec value.now))))) }
+    ensures kept { StartsWith out.new.items out.old.items }
+{
+    out.reserve(AROUND + MAX_SPELLING)?;
+    push_dec(out, tag, value);
+    Ok(())
+}
+
 /// Appends a field of the decimal number that a value spells, if it spells one.
 ///
 /// # Errors
 ///
 /// `AllocError` for want of memory; what stood in `out` stays, and a part may stand behind it.
-#[inline(never)]
-pub fn put_dec(out: &mut Vec<u8>, tag: u32, value: &[u8]) -> Appended
+#[inline(always)]
+pub fn put_dec(out: &mut Vec<u8>, tag: u32, value: &[u8]) -> Result<(), AllocError>
     ensures done { OnOk result (out.new.items ≡ out.old.items
         ++ body_of (cell_fields (Tag tag, option_map dec_text (result_ok (read_dec value.now))))) }
     ensures kept { StartsWith out.new.items out.old.items }
 {
-    let start = out.len();
-    out.reserve(AROUND + MAX_SPELLING)?;
-    push_tag(out, tag);
-    match Dec::respell(value, out) {
-        Ok(()) => out.push_reserved(SOH),
-        Err(_) => out.truncate(start),
+    if has_room(out, AROUND + MAX_SPELLING) && tag < 1000 {
+        push_dec(out, tag, value);
+        Ok(())
+    } else {
+        put_grown(out, tag, value)
     }
-    Ok(())
 }
 
 /// Appends the count of a group that has lines.

@@ -1,7 +1,7 @@
 -- The parts of a date, YYYYMMDD, and a month without a date.
 use Rattle.std.specs.Prelude.{◌≡◌, ℕ, suc, Bool, true, false, List, [], ◌∷◌, ◌++◌, refl, IsSome}
-use Rattle.std.specs.Prelude.{Option, Some, None, Ok, Err, length, take, drop, ◌&&◌, ◌==◌}
-use Rattle.std.specs.Prelude.{if◌then◌else◌, codes, ◌+◌, ◌/◌, ◌%◌, ◌≤◌, IfSome}
+use Rattle.std.specs.Prelude.{Option, Some, None, Ok, Err, length, take, drop, ◌==◌, if◌then◌else◌}
+use Rattle.std.specs.Prelude.{codes, ◌+◌, ◌/◌, ◌%◌, ◌≤◌, IfSome}
 use Rattle.std.proofs.Common.{sym, ap, ◌∙◌, arith}
 use Rattle.std.proofs.lemmas.Bool.{eqb-true}
 use Rattle.std.proofs.lemmas.Bool.Decides.{nat_tests}
@@ -14,19 +14,14 @@ use Rattle.typed_fields.specs.Reading.{judged}
 use Rattle.typed_fields.specs.Digits.{has_pattern, have_marks, number_of, zero_padded}
 use Rattle.typed_fields.specs.Day.{read_day, spells_date}
 use Rattle.typed_fields.specs.MonthYear.{month_year_text}
-use Rattle.value_kinds.specs.ValueKind.{two_digit_text, spelt, text_of as spelled_text}
-use Rattle.value_kinds.specs.ValueKind.{Day, MonthYear, DayOfMonth, Spelling, spelling, spelled}
+use Rattle.value_kinds.specs.ValueKind.{two_digit_text, spelt, text_of as spelled_text, Day}
+use Rattle.value_kinds.specs.ValueKind.{MonthYear, DayOfMonth, Spelling, spelling, spelled}
 use Rattle.field_groups.specs.Field.{Field}
 use Rattle.message_tables.specs.Tables.{Said, ◌>>=◌, text_of, value_at}
 use Rattle.row_values.specs.Kinds.{Value, MonthBeside, filled, if_spelled, judge, month_beside}
-use Rattle.row_values.specs.Kinds.{verdict_of}
-use Rattle.row_values.specs.Kinds.{said}
+use Rattle.row_values.specs.Kinds.{verdict_of, said}
 use Rattle.rows_fix50.specs.Maturity.{IsDate}
-
-both : (a b : Bool) → (a && b) ≡ true → (a ≡ true) × (b ≡ true)
-both true true h = (refl, refl)
-both true false h = absurd cc
-both false b h = absurd cc
+use Rattle.typed_fields.proofs.DigitsLemmas.{both_true as both}
 
 -- what is read has its form and its bound
 is_read : {A : Type 0} (b : ℕ) (bs : List ℕ) (form bound : Bool) (v : A)
@@ -45,8 +40,7 @@ is_read b bs form bound v = here (length (b ∷ bs) == 0) form bound
     here false false bound h = absurd cc
 
 -- what has its form and its bound is read
-reads : {A : Type 0} (b : ℕ) (bs : List ℕ) (form bound : Bool) (v : A)
-    → form ≡ true → bound ≡ true
+reads : {A : Type 0} (b : ℕ) (bs : List ℕ) (form bound : Bool) (v : A) → form ≡ true → bound ≡ true
     → spelled_text (spelt (λ _. b ∷ bs) (judged (b ∷ bs) form bound v)) ≡ Some (b ∷ bs)
 reads b bs form bound v f g = rw (f, g, not_empty (length bs)) refl
   where
@@ -97,8 +91,7 @@ two day le =
 -- a month and a day that spell the parts of a date spell the date
 pub date_again : (date : List ℕ) (month : Month) (day : Option ℕ) → IsDate date
     → Some (month_year_text month) ≡ spelled MonthYear (take 6 date)
-    → option_map two_digit_text day ≡ spelled DayOfMonth (drop 6 date)
-    → IfSome day (λ d. d ≤ 99)
+    → option_map two_digit_text day ≡ spelled DayOfMonth (drop 6 date) → IfSome day (λ d. d ≤ 99)
     → option_map (λ d. month_year_text month ++ zero_padded 2 d) day ≡ Some date
 date_again date month None is m d le =
     let no : None ≡ Some (drop 6 date) = d ∙ is.day in absurd cc

@@ -1,6 +1,6 @@
 -- The first party of a role, by the cells of the parties.
-use Rattle.std.proofs.Common.{◌≡◌, ℕ, ◌<◌, ◌≤◌, ◌^◌, List, [], ◌∷◌, Some, None, Bool, true}
-use Rattle.std.proofs.Common.{false, cond, eqb, map, refl, ap, ◌∙◌, arith}
+use Rattle.std.proofs.Common.{◌≡◌, ℕ, ◌<◌, ◌≤◌, ◌^◌, List, [], ◌∷◌, Some, None, Bool, true, false}
+use Rattle.std.proofs.Common.{cond, eqb, map, refl, ap, ◌∙◌, arith}
 use Rattle.std.specs.Prelude.{◌==◌}
 use Rattle.std.specs.List.{AllByRecursion, AllZip, find}
 use Rattle.std.specs.Option.{option_map}
@@ -17,10 +17,11 @@ use Rattle.row_values.specs.Lines.{IsParty, party_cells}
 use Rattle.row_values.specs.Groups.{parties, AreParties}
 use Rattle.rows_fix50.specs.Meaning.{id_of}
 
-abbrev AreSmall : List PartyLine → Type 0
+abbrev pub AreSmall : List PartyLine → Type 0
 AreSmall ps = AllByRecursion (λ p. p.role < 2 ^ 64) ps
 
-small : (lines : List (List Field)) (ps : List PartyLine) → AllZip IsParty lines ps → AreSmall ps
+pub small : (lines : List (List Field)) (ps : List PartyLine) → AllZip IsParty lines ps
+    → AreSmall ps
 small [] [] w = tt
 small [] (p ∷ ps) w = absurd w
 small (line ∷ lines) [] w = absurd w
@@ -29,7 +30,7 @@ small (line ∷ lines) (p ∷ ps) w = (below p.role w.0.bound, small lines ps w.
     below : (role : ℕ) → role ≤ 1_000_000_000 → role < 2 ^ 64
     below role le = omega (arith, le)
 
-same_role : (a b : ℕ) → a < 2 ^ 64 → b < 2 ^ 64 → bytes_eq (decimal a) (decimal b) ≡ (a == b)
+pub same_role : (a b : ℕ) → a < 2 ^ 64 → b < 2 ^ 64 → bytes_eq (decimal a) (decimal b) ≡ (a == b)
 same_role a b small_a small_b =
     same_from_decides {P = a ≡ b} (bytes_eq (decimal a) (decimal b)) (a == b)
     (Decides-like (bytes_eq (decimal a) (decimal b)) (decimal_injective a b small_a small_b)
@@ -52,8 +53,7 @@ ids role r (p ∷ ps) s =
 
 -- where the parties say these cells, so do their ids
 pub of_role : (fields : List Field) (ps : List PartyLine) → AreParties fields ps
-    → map party_cells ps ≡ (group_says judge fields parties).1
-    → (role : ℕ) → role < 2 ^ 64
+    → map party_cells ps ≡ (group_says judge fields parties).1 → (role : ℕ) → role < 2 ^ 64
     → id_of role ps ≡ party_in role (group_says judge fields parties).1
 of_role fields ps w same role r =
     ids role r ps (small (lines_in (tags_in parties) fields) ps w) ∙ ap (party_in role) same

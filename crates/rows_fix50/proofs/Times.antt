@@ -2,11 +2,9 @@
 use Rattle.std.specs.Prelude.{◌≡◌, ℕ, Bool, true, false, List, [], ◌∷◌, refl, not, codes, Ok}
 use Rattle.std.specs.Prelude.{Option, Some, None, ◌||◌, if◌then◌else◌}
 use Rattle.field_groups.specs.Field.{Field}
-use Rattle.message_tables.specs.Tables.{Said, ◌>>=◌, text_of}
-use Rattle.message_tables.specs.Tables.{is_listed, value_at}
+use Rattle.message_tables.specs.Tables.{Said, ◌>>=◌, text_of, is_listed, value_at}
 use Rattle.value_kinds.specs.ValueKind.{Code, listed_word, is_code, spelling}
-use Rattle.row_values.specs.Kinds.{Value, TimeBeside, counted, is_at_close, judge}
-use Rattle.row_values.specs.Kinds.{verdict_of, said}
+use Rattle.row_values.specs.Kinds.{Value, TimeBeside, counted, is_at_close, judge, verdict_of, said}
 use Rattle.std.proofs.Common.{◌∙◌}
 
 -- a TimeInForce, where it may be at the close or not

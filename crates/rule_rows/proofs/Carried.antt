@@ -6,18 +6,18 @@ use Rattle.std.specs.Prelude.{IsSome, IfSome}
 use Rattle.std.specs.List.{AllByRecursion, list_all}
 use Rattle.field_groups.specs.Field.{Field}
 use Rattle.message_tables.specs.Content.{line_fields}
-use Rattle.message_tables.specs.Tables.{Need, Required, Optional, Lenient, Fixed, When, Row, Cell}
-use Rattle.message_tables.specs.Tables.{Said, Spells, is_needed, is_one_of}
+use Rattle.message_tables.specs.Tables.{Need, Optional, Lenient, Fixed, When, Row, Cell, Said}
+use Rattle.message_tables.specs.Tables.{Spells, is_needed, is_one_of}
 use Rattle.value_kinds.specs.ValueKind.{Code, Codes, FineStamp, Known, Stamp, Word, known, spelling}
 use Rattle.row_values.specs.Kinds.{Kind, Value, MonthBeside, judge, verdict_of}
 use Rattle.sound_laws.specs.Sound.{AreSaid, IsClear, IsLine, IsSaid}
-use Rattle.sound_laws.proofs.Each.{both}
+use Rattle.sound_laws.proofs.Each.{both, each_by}
 use Rattle.sound_laws.proofs.PlainRows.{spelled}
-use Rattle.sound_laws.proofs.RowsSaid.{IsCodeOf, code_spelled, lenient_said, needed_said}
-use Rattle.sound_laws.proofs.RowsSaid.{optional_said, required_said, same_value}
-use Rattle.sound_laws.proofs.SpelledAgain.{fine_down, fine_up}
+use Rattle.sound_laws.proofs.RowsSaid.{IsCodeOf, code_spelled, free_said}
+use Rattle.sound_laws.proofs.SpelledAgain.{fine_down, fine_up, if_good}
 use Rattle.rule_rows.specs.Texts.{is_unfixed}
 use Rattle.rule_rows.proofs.Items.{can_go, is_plain, is_value}
+use Rattle.typed_fields.specs.declared.fault.FieldFault.TheVariants.{Range}
 
 -- ---- what a row becomes
 
@@ -56,81 +56,63 @@ all_can_go rows = list_all can_go rows
 
 -- ---- codes that have to be known, and moments
 
-known_by : (listed : Bool) (text : List ℕ)
-    → verdict_of (known listed text) ≡ Spells text → listed ≡ true
-known_by true text h = refl
-known_by false text h = absurd cc
-
 pub is_known_of : (fields : List Field) (listed text : List ℕ)
     → judge fields (Value (Known listed)) text ≡ Spells text → IsCodeOf listed text
 unfolding judge spelling
 is_known_of fields listed [] h = absurd cc
 is_known_of fields listed (code ∷ []) h =
-    record { code = code; is = refl; listed = known_by (is_one_of listed code) (code ∷ []) h }
-is_known_of fields listed (a ∷ b ∷ text) h =
-    absurd (let k = known_by false (a ∷ b ∷ text) h in cc)
+    let known = known (is_one_of listed code) (code ∷ []) in record {
+      code = code;
+      is = refl;
+      listed = (if_good (is_one_of listed code) Range (code ∷ []) (code ∷ [])
+          (spelled known (code ∷ []) h)).0;
+    }
+is_known_of fields listed (a ∷ b ∷ text) h = absurd cc
 
 module _ (before after : List Field) where
   abbrev Spelled : List Field → Kind → Said → Type 0
   Spelled fields kind said = IfSome said (λ text. judge fields kind text ≡ Spells text)
 
-  known_down : (listed : List ℕ) (said : Said) → Spelled before (Value (Known listed)) said
-      → Spelled after (Value (Code listed)) said
-  known_down listed None h = tt
-  known_down listed (Some text) h =
+  known_down : (listed text : List ℕ) → judge before (Value (Known listed)) text ≡ Spells text
+      → judge after (Value (Code listed)) text ≡ Spells text
+  known_down listed text h =
       let t = is_known_of before listed text h in
       let P : List ℕ → Type 0 = λ x. judge after (Value (Code listed)) x ≡ Spells x in
       subst P (sym t.is) (code_spelled after listed t.code t.listed)
 
-  stamp_up : (said : Said) → Spelled before (Value Stamp) said
-      → Spelled after (Value FineStamp) said
-  unfolding judge
-  stamp_up None h = tt
-  stamp_up (Some text) h = ap verdict_of (fine_up text (spelled (spelling Stamp text) text h))
-
-  stamp_down : (said : Said) → Spelled before (Value FineStamp) said
-      → Spelled after (Value Stamp) said
-  unfolding judge
-  stamp_down None h = tt
-  stamp_down (Some text) h =
-      ap verdict_of (fine_down text text (spelled (spelling FineStamp text) text h))
-
   -- A VALUE THAT IS CARRIED, and judged by itself
   pub value_carried : (up : Bool) (kind : Kind) → is_value kind ≡ true → (said : Said)
       → Spelled before kind said → Spelled after (kind_by kind up) said
-  value_carried false (Value (Known listed)) v said h = known_down listed said h
-  value_carried true (Value Stamp) v said h = stamp_up said h
-  value_carried false (Value FineStamp) v said h = stamp_down said h
-  value_carried up (Value kind) v said h = same_value before after kind said h
-  value_carried up kind v said h = absurd cc
+  unfolding judge
+  value_carried up kind v None h = tt
+  value_carried false (Value (Known listed)) v (Some text) h = known_down listed text h
+  value_carried true (Value Stamp) v (Some text) h =
+      ap verdict_of (fine_up text (spelled (spelling Stamp text) text h))
+  value_carried false (Value FineStamp) v (Some text) h =
+      ap verdict_of (fine_down text text (spelled (spelling FineStamp text) text h))
+  value_carried up (Value kind) v (Some text) h = h
+  value_carried up kind v (Some text) h = absurd cc
 
 -- A ROW WHOSE NEED IS CARRIED says what has a canonical spelling, and stands where it is needed
 pub need_said : (fields : List Field) (need : Need) (up dropped : Bool) (to : ℕ) (kind : Kind)
     (said : Said) → is_unfixed need ≡ true → (is_needed need fields ≡ true → IsSome said)
     → IfSome said (λ text. judge fields kind text ≡ Spells text) → IfSome said IsClear
     → IsSaid judge fields (record { tag = to; kind = kind; need = need_by need up dropped }) said
-need_said fields Required up dropped to kind said u there s c =
-    required_said fields to kind said (there refl) s c
-need_said fields Optional true true to kind said u there s c = lenient_said fields to kind said s c
-need_said fields Optional up dropped to kind said u there s c =
-    optional_said fields to kind said s c
-need_said fields Lenient true dropped to kind said u there s c =
-    lenient_said fields to kind said s c
-need_said fields Lenient false dropped to kind said u there s c =
-    optional_said fields to kind said s c
-need_said fields (When condition) up dropped to kind said u there s c =
-    needed_said fields condition to kind said there s c
 need_said fields (Fixed text) up dropped to kind said u there s c = absurd cc
+need_said fields Optional true true to kind said u there s c =
+    free_said fields _ said there refl s c
+need_said fields Lenient false dropped to kind said u there s c =
+    free_said fields _ said there refl s c
+need_said fields need up dropped to kind said u there s c = free_said fields _ said there refl s c
 
 -- ---- rows and lines
 
 -- a need by no other field
 plain_need : (need : Need) → is_plain need ≡ true → (before after : List Field)
     → (is_unfixed need ≡ true) × (is_needed need after ≡ true → is_needed need before ≡ true)
-plain_need Required h before after = (refl, λ n. n)
-plain_need Optional h before after = (refl, λ n. n)
-plain_need Lenient h before after = (refl, λ n. n)
-plain_need need h before after = absurd cc
+plain_need (Fixed text) h before after = absurd cc
+plain_need (When condition) h before after = absurd cc
+plain_need need h before after = (refl, λ n. n)
 
 module _ (up : Bool) where
   -- A ROW THAT IS CARRIED
@@ -147,19 +129,17 @@ module _ (up : Bool) where
       → all_can_go rows ≡ true → AreSaid judge fields rows cells
       → AreSaid judge fields (carried_rows up rows) cells
   cells_carried fields [] [] ok said = tt
-  cells_carried fields [] (cell ∷ cells) ok said = absurd said
-  cells_carried fields (row ∷ rows) [] ok said = absurd said
   cells_carried fields (row ∷ rows) (cell ∷ cells) ok said =
       let p = both (can_go row) (all_can_go rows) ok in (
         said.0,
         row_carried fields fields row.tag row cell.1 p.0 said.1,
         cells_carried fields rows cells p.1 said.2,
       )
+  cells_carried fields rows cells ok said = absurd said
 
   -- THE LINES of a group that is carried
   pub lines_carried : (rows : List (Row Kind)) (lines : List (List Cell)) → all_can_go rows ≡ true
       → AllByRecursion (IsLine judge rows) lines
       → AllByRecursion (IsLine judge (carried_rows up rows)) lines
-  lines_carried rows [] ok said = tt
-  lines_carried rows (line ∷ lines) ok said =
-      (cells_carried (line_fields line) rows line ok said.0, lines_carried rows lines ok said.1)
+  lines_carried rows lines ok = each_by (IsLine judge rows) (IsLine judge (carried_rows up rows))
+      (λ line. cells_carried (line_fields line) rows line ok) lines

@@ -5,11 +5,10 @@ use Rattle.std.proofs.Common.{sym, ap, subst, ◌∙◌}
 use Rattle.std.proofs.lemmas.Bool.{eqb-true}
 use Rattle.std.specs.Option.{option_map}
 use Rattle.std.specs.Prelude.{◌||◌, ◌&&◌, ◌==◌, is_some, if◌then◌else◌, IfSome}
-use Rattle.std.specs.List.{AllByRecursion, flat_map, list_any}
+use Rattle.std.specs.List.{AllByRecursion}
 use Rattle.message_tables.specs.Tables.{Need, Required, Optional, Lenient, Place, Tag, Row, Item}
-use Rattle.message_tables.specs.Tables.{One, Party, Lines, RepeatingGroup, is_place}
+use Rattle.message_tables.specs.Tables.{One, Lines, RepeatingGroup}
 use Rattle.row_values.specs.Kinds.{Kind, Value}
-use Rattle.sound_laws.specs.Sound.{places_of}
 use Rattle.sound_laws.proofs.Each.{each_at}
 use Rattle.sound_laws.proofs.RowsSaid.{row_of_tag}
 use Rattle.rule_rows.specs.ByRules.{At, Grouped, has_any, has_group, has_place, outline_of}
@@ -28,50 +27,37 @@ IsRow items row = IfSome (row_of_tag row.tag items) (λ other. other ≡ row)
 pub row_there : (items : List (Item Kind)) (tag : ℕ)
     → has_place (outline_of items) (Tag tag) ≡ has_row items tag
 row_there [] tag = refl
-row_there (One row ∷ rest) tag = by (row.tag == tag) (row_there rest tag)
-  where
-    by : (b : Bool)
-        → list_any (λ place. is_place place (Tag tag)) (flat_map places_of rest)
-        ≡ is_some (row_of_tag tag rest)
-        → (b || list_any (λ place. is_place place (Tag tag)) (flat_map places_of rest))
-        ≡ is_some (if b then Some row else row_of_tag tag rest)
-    by true h = refl
-    by false h = h
-row_there (Party role ∷ rest) tag = row_there rest tag
-row_there (Lines group ∷ rest) tag = row_there rest tag
+row_there (One row ∷ rest) tag =
+    elim (row.tag == tag) as (λ b. (b || has_place (outline_of rest) (Tag tag))
+    ≡ is_some (if b then Some row else row_of_tag tag rest))
+    [ true ↦ refl | false ↦ row_there rest tag ]
+row_there (item ∷ rest) tag = row_there rest tag
 
 pub group_there : (items : List (Item Kind)) (count : ℕ)
     → has_group (outline_of items) count ≡ is_some (group_at count items)
 group_there [] count = refl
-group_there (One row ∷ rest) count = group_there rest count
-group_there (Party role ∷ rest) count = group_there rest count
-group_there (Lines group ∷ rest) count = by (group.count == count) (group_there rest count)
-  where
-    by : (b : Bool) → has_group (outline_of rest) count ≡ is_some (group_at count rest)
-        → (b || has_group (outline_of rest) count)
-        ≡ is_some (if b then Some group else group_at count rest)
-    by true h = refl
-    by false h = h
+group_there (Lines group ∷ rest) count =
+    elim (group.count == count) as (λ b. (b || has_group (outline_of rest) count)
+    ≡ is_some (if b then Some group else group_at count rest))
+    [ true ↦ refl | false ↦ group_there rest count ]
+group_there (item ∷ rest) count = group_there rest count
 
 -- a group that is found has its count, and what holds of each item holds of it
 pub group_found : (P : Item Kind → Type 0) (count : ℕ) (items : List (Item Kind))
     (group : RepeatingGroup Kind) → group_at count items ≡ Some group → AllByRecursion P items
     → (group.count ≡ count) × P (Lines group)
 group_found P count [] group e each = absurd cc
-group_found P count (One row ∷ items) group e each = group_found P count items group e each.1
-group_found P count (Party role ∷ items) group e each = group_found P count items group e each.1
 group_found P count (Lines first ∷ items) group e each =
-    by (first.count == count) refl e (λ later. group_found P count items group later each.1)
-  where
-    by : (b : Bool) → (first.count == count) ≡ b
-        → (if b then Some first else group_at count items) ≡ Some group
-        → (group_at count items ≡ Some group → (group.count ≡ count) × P (Lines group))
-        → (group.count ≡ count) × P (Lines group)
-    by true same e later =
-        let is : first ≡ group = cc in
-        let Q : RepeatingGroup Kind → Type 0 = λ g. (g.count ≡ count) × P (Lines g) in
-        subst Q is (eqb-true first.count count same, each.0)
-    by false same e later = later e
+    elim (first.count == count) as (λ b. (first.count == count) ≡ b
+    → (if b then Some first else group_at count items) ≡ Some group
+    → (group.count ≡ count) × P (Lines group)) [
+      | true ↦ λ same e.
+          let is : first ≡ group = cc in
+          subst (λ (g : RepeatingGroup Kind). (g.count ≡ count) × P (Lines g)) is
+          (eqb-true first.count count same, each.0)
+      | false ↦ λ same e. group_found P count items group e each.1
+    ] refl e
+group_found P count (item ∷ items) group e each = group_found P count items group e each.1
 
 pub count_is : (count : ℕ) (items : List (Item Kind)) (group : RepeatingGroup Kind)
     → group_at count items ≡ Some group → group.count ≡ count
@@ -146,8 +132,7 @@ module _ (items : List (Item Kind)) where
           → option_map target_of (turned_group turn group)
           ≡ target_if (is_some group) (Grouped count)
       by None e = refl
-      by (Some group) e =
-          ap (λ n. Some (Grouped n)) (same group ∙ count_is count items group e)
+      by (Some group) e = ap (λ n. Some (Grouped n)) (same group ∙ count_is count items group e)
 
 -- an item where this holds
 pub item_made : (b : Bool) (item : Item Kind)

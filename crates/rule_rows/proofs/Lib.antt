@@ -6,7 +6,6 @@ pub mod Looked
 pub mod Made
 pub mod Own
 pub mod Parts
-pub mod Placed
 pub mod Said
 pub mod Sound
 pub mod Steps

@@ -1,16 +1,16 @@
 -- The lines that fields say by a group, as they are written.
-use Rattle.std.proofs.Common.{◌≡◌, ◌≤◌, ◌++◌, ℕ, suc, List, [], ◌∷◌, map, length, Bool, true}
-use Rattle.std.proofs.Common.{false, Option, Some, None, refl, sym, ap, ◌∙◌, append_assoc, arith}
-use Rattle.std.proofs.Common.{drop, take}
+use Rattle.std.proofs.Common.{◌≡◌, ◌≤◌, ◌++◌, ℕ, suc, List, [], ◌∷◌, map, length, true, false}
+use Rattle.std.proofs.Common.{Option, Some, None, refl, sym, ap, ◌∙◌, append_assoc, arith, drop}
+use Rattle.std.proofs.Common.{take}
 use Rattle.std.proofs.lemmas.List.{append-nil, length-append, length-map, take-append-drop}
 use Rattle.std.specs.Borrow.{Bor}
 use Rattle.std.specs.Prelude.{Err, Ok, OnOk, Result, position, ◌==◌, if◌then◌else◌}
 use Rattle.message_tables.specs.CodeTables.{own_tags, seen, group_of, row_of}
-use Rattle.message_tables.specs.Tables.{first_tag, in_lines, Cell, Item, Need}
-use Rattle.message_tables.specs.Tables.{Fixed, One, Party, Lines, RepeatingGroup}
-use Rattle.message_tables.specs.Tables.{Row, Tag, Verdict, ◌>>=◌, after_tag, cell_of, from_tag}
-use Rattle.message_tables.specs.Tables.{group_says, groups_of, line_fields_in, lines_in, lines_of}
-use Rattle.message_tables.specs.Tables.{run, says, tags_in, text_of, value_at, GroupTags, is_inside}
+use Rattle.message_tables.specs.Tables.{first_tag, in_lines, Cell, Item, Need, Fixed, Lines}
+use Rattle.message_tables.specs.Tables.{RepeatingGroup, Row, Tag, Verdict, ◌>>=◌, after_tag}
+use Rattle.message_tables.specs.Tables.{cell_of, from_tag, group_says, groups_of, line_fields_in}
+use Rattle.message_tables.specs.Tables.{lines_in, lines_of, run, says, tags_in, text_of, value_at}
+use Rattle.message_tables.specs.Tables.{GroupTags, is_inside}
 use Rattle.message_tables.proofs.ByPlace.{no_lines}
 use Rattle.message_tables.proofs.Mapped.{group_tags_mapped}
 use Rattle.rule_rows.proofs.Items.{count_is, group_found}
@@ -24,7 +24,7 @@ use Rattle.row_values.specs.Kinds.{Kind, judge, said}
 use Rattle.row_values.specs.Writing.{count_fields}
 use Rattle.row_values.specs.declared.kinds.Kind.{Kind as CodeKind}
 use Rattle.row_values.proofs.Contents.{group_written}
-use Rattle.sound_laws.proofs.Each.{all_true, both}
+use Rattle.sound_laws.proofs.Each.{all_true, each_map}
 use Rattle.rule_rows.specs.Rows.{AreWritten, fixed_text, group_at, has_written_lines}
 use Rattle.rule_rows.specs.Rows.{have_written_lines, is_kind_written, line_by, lines_said}
 use Rattle.rule_rows.specs.Rows.{row_fields}
@@ -68,8 +68,7 @@ lines_mapped : (rows : List (CodeRow CodeKind)) (lines : List (List Field))
     → flat_map (line_by rows) lines
     ≡ flat_map (λ line. line_fields (map (cell_of judge line) (map (row_of kind_of) rows))) lines
 lines_mapped rows [] = refl
-lines_mapped rows (line ∷ lines) =
-    λ i. line_mapped line rows i ++ lines_mapped rows lines i
+lines_mapped rows (line ∷ lines) = λ i. line_mapped line rows i ++ lines_mapped rows lines i
 
 -- the count, and then the lines, are the group
 pub group_done : {E : Type 0} (r : Result (Unit {0}) E) (fields : List Field)
@@ -110,21 +109,17 @@ front_few tags fs =
 
 after_few : (tag : ℕ) (fs : List Field) → length (after_tag tag fs) ≤ length fs
 after_few tag [] = omega arith
-after_few tag (f ∷ fs) = by (f.0 == tag) (after_few tag fs)
-  where
-    by : (b : Bool) → length (after_tag tag fs) ≤ length fs
-        → length (if b then fs else after_tag tag fs) ≤ suc (length fs)
-    by true h = omega arith
-    by false h = omega (arith, h)
+after_few tag (f ∷ fs) =
+    let h = after_few tag fs in
+    elim (f.0 == tag) as (λ b. length (if b then fs else after_tag tag fs) ≤ suc (length fs))
+    [ true ↦ omega arith | false ↦ omega (arith, h) ]
 
 from_few : (tag : ℕ) (fs : List Field) → length (from_tag tag fs) ≤ length fs
 from_few tag [] = omega arith
-from_few tag (f ∷ fs) = by (f.0 == tag) (from_few tag fs)
-  where
-    by : (b : Bool) → length (from_tag tag fs) ≤ length fs
-        → length (if b then f ∷ fs else from_tag tag fs) ≤ suc (length fs)
-    by true h = omega arith
-    by false h = omega (arith, h)
+from_few tag (f ∷ fs) =
+    let h = from_few tag fs in
+    elim (f.0 == tag) as (λ b. length (if b then f ∷ fs else from_tag tag fs) ≤ suc (length fs))
+    [ true ↦ omega arith | false ↦ omega (arith, h) ]
 
 members_few : (tags : GroupTags) (fields : List Field)
     → length (line_fields_in tags fields) ≤ length fields
@@ -147,11 +142,8 @@ count_few tags fields members count most are few all bound =
 rows_written : (rows : List (CodeRow CodeKind))
     → list_all (λ row. is_kind_written row.kind) (map (row_of kind_of) rows) ≡ true
     → AreWritten rows
-rows_written [] h = tt
-rows_written (row ∷ rows) h =
-    let p = both (is_kind_written (kind_of row.kind))
-    (list_all (λ r. is_kind_written r.kind) (map (row_of kind_of) rows)) h in
-    (p.0, rows_written rows p.1)
+rows_written rows h = each_map (λ row. is_kind_written row.kind ≡ true) (row_of kind_of) rows
+    (all_true (λ row. is_kind_written row.kind) (map (row_of kind_of) rows) h)
 
 -- the group of a count has such rows, where all groups have
 pub group_written_by : (count : ℕ) (items : List (Item Kind)) (group : CodeGroup CodeKind)
@@ -165,29 +157,20 @@ pub lines_are : (fields : List Field) (count : ℕ) (items : List (Item Kind))
     → lines_of count (map (group_says judge fields) (flat_map groups_of items))
     ≡ lines_said fields (group_at count items)
 lines_are fields count [] = refl
-lines_are fields count (One row ∷ items) = lines_are fields count items
-lines_are fields count (Party role ∷ items) = lines_are fields count items
 lines_are fields count (Lines group ∷ items) =
-    by (group.count == count) (lines_are fields count items)
-  where
-    by : (b : Bool)
-        → lines_of count (map (group_says judge fields) (flat_map groups_of items))
-        ≡ lines_said fields (group_at count items)
-        → (if b then (group_says judge fields group).1
-        else lines_of count (map (group_says judge fields) (flat_map groups_of items)))
-        ≡ lines_said fields (if b then Some group else group_at count items)
-    by true rest = refl
-    by false rest = rest
+    elim (group.count == count) as (λ b. (if b then (group_says judge fields group).1
+    else lines_of count (map (group_says judge fields) (flat_map groups_of items)))
+    ≡ lines_said fields (if b then Some group else group_at count items))
+    [ true ↦ refl | false ↦ lines_are fields count items ]
+lines_are fields count (item ∷ items) = lines_are fields count items
 
 -- no line is said of a count that no field has
 pub none_said : (fields : List Field) (count : ℕ) (items : List (Item Kind))
     → None ≡ position (λ f. f.0 == count) fields
     → lines_of count (map (group_says judge fields) (flat_map groups_of items)) ≡ []
-none_said fields count items none =
-    lines_are fields count items ∙ by (group_at count items) refl
+none_said fields count items none = lines_are fields count items ∙ by (group_at count items) refl
   where
-    by : (o : Option (RepeatingGroup Kind)) → group_at count items ≡ o
-        → lines_said fields o ≡ []
+    by : (o : Option (RepeatingGroup Kind)) → group_at count items ≡ o → lines_said fields o ≡ []
     by None e = refl
     by (Some group) e =
         let at_own : None ≡ position (λ f. f.0 == group.count) fields =
@@ -219,6 +202,5 @@ pub found_put : {E : Type 0} (r : Result (Unit {0}) E) (fields : List Field) (co
 found_put (Err error) fields count items group old out found h = tt
 found_put (Ok done) fields count items group old out found h =
     h ∙ ap (λ c. old ++ body_of (group_fields c (group_says judge fields group).1))
-    (count_is count items group (sym found))
-    ∙ ap (λ ls. old ++ body_of (group_fields count ls))
+    (count_is count items group (sym found)) ∙ ap (λ ls. old ++ body_of (group_fields count ls))
     (sym (lines_are fields count items ∙ ap (lines_said fields) (sym found)))

@@ -5,19 +5,14 @@ use Rattle.std.proofs.Common.{None, refl, sym, ap, ◌∙◌}
 use Rattle.std.proofs.lemmas.Bool.{eqb-true}
 use Rattle.std.specs.Prelude.{not, ◌&&◌, ◌==◌, is_some, if◌then◌else◌}
 use Rattle.std.specs.List.{AllByRecursion, flat_map, list_any}
-use Rattle.message_tables.specs.Tables.{Place, Tag, Role, Said, Cell, Message, is_place, lines_of}
-use Rattle.message_tables.specs.Tables.{said_at}
-use Rattle.sound_laws.proofs.Each.{both, either, none_each}
+use Rattle.message_tables.specs.Tables.{Place, Said, Cell, Message, is_place, lines_of, said_at}
+use Rattle.sound_laws.proofs.Each.{both, each_same, each_two, either, none_each}
+use Rattle.sound_laws.proofs.Lookups.{place_is}
 use Rattle.rule_rows.specs.ByRules.{Target, At, Grouped, Kinds, by_rules, cells_at, groups_at}
 use Rattle.rule_rows.specs.ByRules.{has_any, has_place, lack_by, lack_if, outline, rule_cells}
 use Rattle.rule_rows.specs.ByRules.{rule_groups}
 
 -- ---- what the source does not have says nothing
-
-same_place : (a b : Place) → is_place a b ≡ true → a ≡ b
-same_place (Tag a) (Tag b) h = ap (λ (tag : ℕ). Tag tag) (eqb-true a b h)
-same_place (Role a) (Role b) h = ap (λ (role : ℕ). Role role) (eqb-true a b h)
-same_place other more h = absurd cc
 
 pub none_at : (cells : List Cell) (place : Place)
     → list_any (λ one. is_place one place) (map (λ cell. cell.0) cells) ≡ false
@@ -53,7 +48,7 @@ is_target (Grouped a) (Grouped b) = a == b
 is_target a b = false
 
 same_target : (a b : Target) → is_target a b ≡ true → a ≡ b
-same_target (At a) (At b) h = ap (λ (place : Place). At place) (same_place a b h)
+same_target (At a) (At b) h = ap (λ (place : Place). At place) (place_is a b h)
 same_target (Grouped a) (Grouped b) h = ap (λ (count : ℕ). Grouped count) (eqb-true a b h)
 same_target other more h = absurd cc
 
@@ -76,8 +71,7 @@ module _ {Rule : Type 0} (kinds : Kinds Rule) where
   -- rules that have a target each
   abbrev pub are_apart : List Rule → Bool
   are_apart [] = true
-  are_apart (rule ∷ rules) =
-      not (is_some (rule_at (kinds.target rule) rules)) && are_apart rules
+  are_apart (rule ∷ rules) = not (is_some (rule_at (kinds.target rule) rules)) && are_apart rules
 
   no_rule : (rule : Option Rule) → not (is_some rule) ≡ true → rule ≡ None
   no_rule None h = refl
@@ -100,77 +94,68 @@ module _ {Rule : Type 0} (kinds : Kinds Rule) where
     lines_by None = []
     lines_by (Some rule) = kinds.lines m rule
 
+  -- WHAT IS LOOKED UP at a target, among what rules make, is what the rule of the target says: of
+  -- what a rule makes and more, it is that where the rule has the target, and else that of the more
+  module _ {X R : Type 0} (look : List X → R) (entries : Rule → List X) (has : Rule → Bool)
+      (of : Rule → R) (target : Target) where
+    abbrev of_found : Option Rule → R
+    of_found None = look []
+    of_found (Some rule) = of rule
+
+    there : ((rule : Rule) (more : List X) → look (entries rule ++ more)
+        ≡ (if has rule && is_target (kinds.target rule) target then of rule else look more))
+        → ((rule : Rule) → has rule ≡ false → of rule ≡ look [])
+        → (rules : List Rule) → are_apart rules ≡ true
+        → look (flat_map entries rules) ≡ of_found (rule_at target rules)
+    there step none [] apart = refl
+    there step none (rule ∷ rules) apart =
+        let p = both (not (is_some (rule_at (kinds.target rule) rules))) (are_apart rules) apart in
+        step rule (flat_map entries rules)
+        ∙ by (has rule) (is_target (kinds.target rule) target) refl refl
+        (there step none rules p.1) (λ here. no_second rule rules target p.0 here)
+      where
+        by : (there here : Bool) → has rule ≡ there → is_target (kinds.target rule) target ≡ here
+            → look (flat_map entries rules) ≡ of_found (rule_at target rules)
+            → (is_target (kinds.target rule) target ≡ true → rule_at target rules ≡ None)
+            → (if there && here then of rule else look (flat_map entries rules))
+            ≡ of_found (if here then Some rule else rule_at target rules)
+        by true true e f rest second = refl
+        by false true e f rest second = rest ∙ ap of_found (second f) ∙ sym (none rule e)
+        by true false e f rest second = rest
+        by false false e f rest second = rest
+
   module _ (are : AreKinds) (m : Message) where
     -- WHAT IS SAID at a place
-    pub said_there : (rules : List Rule) → are_apart rules ≡ true → (place : Place)
-        → said_at (flat_map (rule_cells kinds m) rules) place
-        ≡ said_by m (rule_at (At place) rules)
-    said_there [] apart place = refl
-    said_there (rule ∷ rules) apart place =
-        let p = both (not (is_some (rule_at (kinds.target rule) rules))) (are_apart rules) apart in
-        by (kinds.has (outline m) rule) (is_target (kinds.target rule) (At place)) refl refl
-        (said_there rules p.1 place)
-        (λ f. no_second rule rules (At place) p.0 f)
+    said_there : (rules : List Rule) → are_apart rules ≡ true → (place : Place)
+        → said_at (flat_map (rule_cells kinds m) rules) place ≡ said_by m (rule_at (At place) rules)
+    said_there rules apart place =
+        there (λ cells. said_at cells place) (rule_cells kinds m) (kinds.has (outline m))
+        (kinds.said m) (At place)
+        (λ rule more. by (kinds.has (outline m) rule) (kinds.target rule) (kinds.said m rule) more)
+        (are.none m) rules apart
       where
-        by : (there here : Bool) → kinds.has (outline m) rule ≡ there
-            → is_target (kinds.target rule) (At place) ≡ here
-            → said_at (flat_map (rule_cells kinds m) rules) place
-            ≡ said_by m (rule_at (At place) rules)
-            → (is_target (kinds.target rule) (At place) ≡ true → rule_at (At place) rules ≡ None)
-            → said_at (cells_at there (kinds.target rule) (kinds.said m rule)
-            ++ flat_map (rule_cells kinds m) rules) place
-            ≡ said_by m (if here then Some rule else rule_at (At place) rules)
-        by true here e f rest none = has (kinds.target rule) here f rest
-          where
-            has : (target : Target) (here : Bool) → is_target target (At place) ≡ here
-                → said_at (flat_map (rule_cells kinds m) rules) place
-                ≡ said_by m (rule_at (At place) rules)
-                → said_at (cells_at true target (kinds.said m rule)
-                ++ flat_map (rule_cells kinds m) rules) place
-                ≡ said_by m (if here then Some rule else rule_at (At place) rules)
-            has (At own) true f rest = rw f refl
-            has (At own) false f rest = rw f rest
-            has (Grouped count) true f rest = absurd cc
-            has (Grouped count) false f rest = rest
-        by false true e f rest none =
-            rest ∙ ap (said_by m) (none f) ∙ sym (are.none m rule e)
-        by false false e f rest none = rest
+        by : (has : Bool) (target : Target) (said : Said) (more : List Cell)
+            → said_at (cells_at has target said ++ more) place
+            ≡ (if has && is_target target (At place) then said else said_at more place)
+        by true (At own) said more = refl
+        by has target said more = refl
 
     -- THE LINES of a group
-    pub lines_there : (rules : List Rule) → are_apart rules ≡ true → (count : ℕ)
+    lines_there : (rules : List Rule) → are_apart rules ≡ true → (count : ℕ)
         → lines_of count (flat_map (rule_groups kinds m) rules)
         ≡ lines_by m (rule_at (Grouped count) rules)
-    lines_there [] apart count = refl
-    lines_there (rule ∷ rules) apart count =
-        let p = both (not (is_some (rule_at (kinds.target rule) rules))) (are_apart rules) apart in
-        by (kinds.has (outline m) rule) (is_target (kinds.target rule) (Grouped count)) refl refl
-        (lines_there rules p.1 count)
-        (λ f. no_second rule rules (Grouped count) p.0 f)
+    lines_there rules apart count =
+        there (lines_of count) (rule_groups kinds m) (kinds.has (outline m)) (kinds.lines m)
+        (Grouped count)
+        (λ rule more. by (kinds.has (outline m) rule) (kinds.target rule) (kinds.lines m rule) more)
+        (are.no_lines m) rules apart
       where
-        by : (there here : Bool) → kinds.has (outline m) rule ≡ there
-            → is_target (kinds.target rule) (Grouped count) ≡ here
-            → lines_of count (flat_map (rule_groups kinds m) rules)
-            ≡ lines_by m (rule_at (Grouped count) rules)
-            → (is_target (kinds.target rule) (Grouped count) ≡ true
-            → rule_at (Grouped count) rules ≡ None)
-            → lines_of count (groups_at there (kinds.target rule) (kinds.lines m rule)
-            ++ flat_map (rule_groups kinds m) rules)
-            ≡ lines_by m (if here then Some rule else rule_at (Grouped count) rules)
-        by true here e f rest none = has (kinds.target rule) here f rest
-          where
-            has : (target : Target) (here : Bool) → is_target target (Grouped count) ≡ here
-                → lines_of count (flat_map (rule_groups kinds m) rules)
-                ≡ lines_by m (rule_at (Grouped count) rules)
-                → lines_of count (groups_at true target (kinds.lines m rule)
-                ++ flat_map (rule_groups kinds m) rules)
-                ≡ lines_by m (if here then Some rule else rule_at (Grouped count) rules)
-            has (Grouped own) true f rest = rw f refl
-            has (Grouped own) false f rest = rw f rest
-            has (At place) true f rest = absurd cc
-            has (At place) false f rest = rest
-        by false true e f rest none =
-            rest ∙ ap (lines_by m) (none f) ∙ sym (are.no_lines m rule e)
-        by false false e f rest none = rest
+        by : (has : Bool) (target : Target) (lines : List (List Cell))
+            (more : List (ℕ × List (List Cell)))
+            → lines_of count (groups_at has target lines ++ more)
+            ≡ (if has && is_target target (Grouped count) then lines else lines_of count more)
+        by true (Grouped own) lines more = refl
+        by has target lines more = refl
 
   -- ---- a list of rules
 
@@ -193,29 +178,17 @@ module _ {Rule : Type 0} (kinds : Kinds Rule) where
   IsFound all rule = rule_at (kinds.target rule) all ≡ Some rule
 
   pub all_found : (all : List Rule) → AreOwn all → AllByRecursion (IsFound all) all
-  all_found all own = by all own.found
-    where
-      by : (rules : List Rule)
-          → map (λ rule. rule_at (kinds.target rule) all) rules ≡ map (λ rule. Some rule) rules
-          → AllByRecursion (IsFound all) rules
-      by [] h = tt
-      by (rule ∷ rules) h =
-          let here : rule_at (kinds.target rule) all ≡ Some rule = cc in
-          let rest : map (λ r. rule_at (kinds.target r) all) rules ≡ map (λ r. Some r) rules = cc in
-          (here, by rules rest)
+  all_found all own =
+      each_same (λ rule. rule_at (kinds.target rule) all) (λ rule. Some rule) all own.found
 
   -- what holds of each rule that fits and lacks nothing holds of all
   pub each_rule : (P Fits : Rule → Type 0) (all : List Rule) (m : Message)
       → ((rule : Rule) → IsFound all rule → Fits rule → kinds.lack m rule ≡ None → P rule)
       → AreOwn all → AllByRecursion Fits all → lack_by kinds all m ≡ None → AllByRecursion P all
   each_rule P Fits all m each own fit lack =
-      by all (all_found all own) fit (none_each (kinds.lack m) all lack)
-    where
-      by : (rules : List Rule) → AllByRecursion (IsFound all) rules → AllByRecursion Fits rules
-          → AllByRecursion (λ rule. kinds.lack m rule ≡ None) rules → AllByRecursion P rules
-      by [] found fit lack = tt
-      by (rule ∷ rules) found fit lack =
-          (each rule found.0 fit.0 lack.0, by rules found.1 fit.1 lack.1)
+      each_two (IsFound all) _ P (λ rule found h. each rule found h.0 h.1) all (all_found all own)
+      (each_two Fits _ (λ rule. Fits rule × (kinds.lack m rule ≡ None)) (λ rule f l. (f, l)) all fit
+      (none_each (kinds.lack m) all lack))
 
 -- no lack of a tag, where it would be lacking if this held
 pub no_lack : (lacks : Bool) (tag : ℕ) → lack_if lacks tag ≡ None → lacks ≡ false

@@ -7,12 +7,11 @@ use Rattle.std.proofs.lemmas.List.{map-append}
 use Rattle.std.specs.Option.{option_map}
 use Rattle.std.specs.Prelude.{option_to_list, unwrap_or}
 use Rattle.std.specs.List.{AllByRecursion, flat_map}
-use Rattle.message_tables.specs.Tables.{Item, One, Party, Lines, Message, RepeatingGroup, Tag, Role}
-use Rattle.message_tables.specs.Tables.{Said, Cell, groups_of}
+use Rattle.message_tables.specs.Tables.{Item, One, Party, Lines, Message, Tag, Role, Said, Cell}
+use Rattle.message_tables.specs.Tables.{groups_of}
 use Rattle.message_tables.specs.Content.{cell_fields, group_fields, item_fields}
 use Rattle.row_values.specs.Kinds.{Kind}
 use Rattle.sound_laws.specs.Sound.{places_of}
-use Rattle.sound_laws.proofs.Each.{each_joined}
 use Rattle.rule_rows.specs.ByRules.{Target, At, Grouped, Outline, Kinds, by_rules, cells_at}
 use Rattle.rule_rows.specs.ByRules.{content_by, fields_at, groups_at, outline, outline_of}
 use Rattle.rule_rows.specs.ByRules.{rule_cells, rule_fields, rule_groups}
@@ -56,77 +55,58 @@ module _ {Rule : Type 0} (kinds : Kinds Rule) (items : List (Item Kind))
 
     -- ---- places and groups
 
-    places_at : (has : Bool) (target : Target) (said : Said) (item : Option (Item Kind))
-        → option_map target_of item ≡ target_if has target
-        → map (λ cell. cell.0) (cells_at has target said) ≡ flat_map places_of (option_to_list item)
-    places_at true target said (Some item) h =
-        let P : Target → Type 0 = λ t. map (λ cell. cell.0) (cells_at true t said)
-        ≡ flat_map places_of (item ∷ []) in
-        subst P (same_target item target h) (of_item item)
-      where
-        of_item : (item : Item Kind) → map (λ cell. cell.0) (cells_at true (target_of item) said)
-            ≡ flat_map places_of (item ∷ [])
-        of_item (One row) = refl
-        of_item other = refl
-    places_at false target said None h = refl
-    places_at other target said more h = absurd cc
-
-    counts_at : (has : Bool) (target : Target) (lines : List (List Cell))
+    -- what a rule makes has the places and groups of its item
+    outline_at : (has : Bool) (target : Target) (said : Said) (lines : List (List Cell))
         (item : Option (Item Kind)) → option_map target_of item ≡ target_if has target
-        → map (λ group. group.0) (groups_at has target lines)
-        ≡ map (λ group. group.count) (flat_map groups_of (option_to_list item))
-    counts_at true target lines (Some item) h =
-        let P : Target → Type 0 = λ t. map (λ group. group.0) (groups_at true t lines)
-        ≡ map (λ group. group.count) (flat_map groups_of (item ∷ [])) in
+        → (map (λ cell. cell.0) (cells_at has target said)
+        ≡ flat_map places_of (option_to_list item))
+        × (map (λ group. group.0) (groups_at has target lines)
+        ≡ map (λ group. group.count) (flat_map groups_of (option_to_list item)))
+    outline_at true target said lines (Some item) h =
+        let P : Target → Type 0 = λ t.
+        (map (λ cell. cell.0) (cells_at true t said) ≡ flat_map places_of (item ∷ []))
+        × (map (λ group. group.0) (groups_at true t lines)
+        ≡ map (λ group. group.count) (flat_map groups_of (item ∷ []))) in
         subst P (same_target item target h) (of_item item)
       where
         of_item : (item : Item Kind)
-            → map (λ group. group.0) (groups_at true (target_of item) lines)
-            ≡ map (λ group. group.count) (flat_map groups_of (item ∷ []))
-        of_item (One row) = refl
-        of_item other = refl
-    counts_at false target lines None h = refl
-    counts_at other target lines more h = absurd cc
+            → (map (λ cell. cell.0) (cells_at true (target_of item) said)
+            ≡ flat_map places_of (item ∷ []))
+            × (map (λ group. group.0) (groups_at true (target_of item) lines)
+            ≡ map (λ group. group.count) (flat_map groups_of (item ∷ [])))
+        of_item (One row) = (refl, refl)
+        of_item other = (refl, refl)
+    outline_at false target said lines None h = (refl, refl)
+    outline_at other target said lines more h = absurd cc
 
-    places_made : ((rule : Rule) → IsMade rule) → (rules : List Rule)
-        → map (λ cell. cell.0) (flat_map (rule_cells kinds m) rules)
-        ≡ flat_map places_of (made rules)
-    places_made each [] = refl
-    places_made each (rule ∷ rules) =
-        map-append (λ cell. cell.0) (rule_cells kinds m rule) (flat_map (rule_cells kinds m) rules)
-        ∙ (λ i. here i ++ places_made each rules i)
-        ∙ sym (flat_map-append places_of (option_to_list (make rule)) (made rules))
-      where
-        here : map (λ cell. cell.0) (rule_cells kinds m rule)
-            ≡ flat_map places_of (option_to_list (make rule))
-        here = rw (has_is rule) (places_at (kinds.has (outline_of items) rule) (kinds.target rule)
-            (kinds.said m rule) (make rule) (each rule))
-
-    counts_made : ((rule : Rule) → IsMade rule) → (rules : List Rule)
-        → map (λ group. group.0) (flat_map (rule_groups kinds m) rules)
-        ≡ map (λ group. group.count) (flat_map groups_of (made rules))
-    counts_made each [] = refl
-    counts_made each (rule ∷ rules) =
-        map-append (λ group. group.0) (rule_groups kinds m rule)
-        (flat_map (rule_groups kinds m) rules)
-        ∙ (λ i. here i ++ counts_made each rules i)
-        ∙ sym (ap (λ l. map (λ group. group.count) l)
-        (flat_map-append groups_of (option_to_list (make rule)) (made rules))
-        ∙ map-append (λ group. group.count) (flat_map groups_of (option_to_list (make rule)))
-        (flat_map groups_of (made rules)))
-      where
-        here : map (λ group. group.0) (rule_groups kinds m rule)
-            ≡ map (λ group. group.count) (flat_map groups_of (option_to_list (make rule)))
-        here = rw (has_is rule) (counts_at (kinds.has (outline_of items) rule) (kinds.target rule)
-            (kinds.lines m rule) (make rule) (each rule))
+    outlines : ((rule : Rule) → IsMade rule) → (rules : List Rule)
+        → (map (λ cell. cell.0) (flat_map (rule_cells kinds m) rules)
+        ≡ flat_map places_of (made rules))
+        × (map (λ group. group.0) (flat_map (rule_groups kinds m) rules)
+        ≡ map (λ group. group.count) (flat_map groups_of (made rules)))
+    outlines each [] = (refl, refl)
+    outlines each (rule ∷ rules) =
+        let here = outline_at (kinds.has (outline m) rule) (kinds.target rule) (kinds.said m rule)
+        (kinds.lines m rule) (make rule)
+        (each rule ∙ ap (λ b. target_if b (kinds.target rule)) (sym (has_is rule))) in
+        let rest = outlines each rules in
+        let its = option_to_list (make rule) in (
+          map-append (λ cell. cell.0) (rule_cells kinds m rule)
+              (flat_map (rule_cells kinds m) rules)
+              ∙ (λ i. here.0 i ++ rest.0 i) ∙ sym (flat_map-append places_of its (made rules)),
+          map-append (λ group. group.0) (rule_groups kinds m rule)
+              (flat_map (rule_groups kinds m) rules) ∙ (λ i. here.1 i ++ rest.1 i)
+              ∙ sym (ap (λ l. map (λ group. group.count) l)
+              (flat_map-append groups_of its (made rules))
+              ∙ map-append (λ group. group.count) (flat_map groups_of its)
+              (flat_map groups_of (made rules))),
+        )
 
     -- THE OUTLINE of what rules make of a message is that of the table that they make
     pub outline_made : ((rule : Rule) → IsMade rule) → (rules : List Rule)
         → outline (by_rules kinds rules m) ≡ outline_of (made rules)
-    outline_made each rules = λ i. record {
-      places = places_made each rules i;
-      counts = counts_made each rules i;
-    }
+    outline_made each rules =
+        let both = outlines each rules in λ i. record { places = both.0 i; counts = both.1 i }
 
     -- ---- the content
 
@@ -135,8 +115,7 @@ module _ {Rule : Type 0} (kinds : Kinds Rule) (items : List (Item Kind))
       w = by_rules kinds all m
 
       item_at : (rule : Rule) (item : Item Kind) → rule_at kinds (target_of item) all ≡ Some rule
-          → fields_at (target_of item) (kinds.said m rule) (kinds.lines m rule)
-          ≡ item_fields w item
+          → fields_at (target_of item) (kinds.said m rule) (kinds.lines m rule) ≡ item_fields w item
       item_at rule (One row) found = ap (λ said. cell_fields (Tag row.tag, said))
           (sym (says kinds are all own m (Tag row.tag) ∙ ap (said_by kinds m) found))
       item_at rule (Party role) found = refl
@@ -173,23 +152,3 @@ module _ {Rule : Type 0} (kinds : Kinds Rule) (items : List (Item Kind))
       pub content_made : ((rule : Rule) → IsMade rule)
           → content_by kinds all m ≡ flat_map (item_fields w) (made all)
       content_made each = contents_made each all (all_found kinds all own)
-
-  -- what holds of each item that a rule makes holds of all
-  pub items_made : (P : Item Kind → Type 0) (rules : List Rule)
-      → AllByRecursion (λ rule. AllByRecursion P (option_to_list (make rule))) rules
-      → AllByRecursion P (made rules)
-  items_made P [] h = tt
-  items_made P (rule ∷ rules) h =
-      each_joined P (option_to_list (make rule)) (made rules) h.0 (items_made P rules h.1)
-
-  -- and so of the groups
-  pub groups_made : (P : RepeatingGroup Kind → Type 0) (rules : List Rule)
-      → AllByRecursion (λ rule. AllByRecursion P
-      (flat_map groups_of (option_to_list (make rule)))) rules
-      → AllByRecursion P (flat_map groups_of (made rules))
-  groups_made P [] h = tt
-  groups_made P (rule ∷ rules) h =
-      let Q : List (RepeatingGroup Kind) → Type 0 = λ gs. AllByRecursion P gs in
-      subst Q (sym (flat_map-append groups_of (option_to_list (make rule)) (made rules)))
-      (each_joined P (flat_map groups_of (option_to_list (make rule)))
-      (flat_map groups_of (made rules)) h.0 (groups_made P rules h.1))

@@ -1,13 +1,13 @@
 -- What a sound message says at the rows and groups of its table.
-use Rattle.std.proofs.Common.{◌≡◌, ℕ, List, Bool, true, false, Option, Some, None, refl, sym, ap}
-use Rattle.std.proofs.Common.{subst, ◌∙◌, [], ◌∷◌}
+use Rattle.std.proofs.Common.{◌≡◌, ℕ, List, true, false, Some, None, refl, sym, ap, subst, ◌∙◌, []}
+use Rattle.std.proofs.Common.{◌∷◌}
 use Rattle.std.specs.Prelude.{IsSome, IfSome, is_some, ◌||◌, ◌==◌}
 use Rattle.std.specs.List.{AllByRecursion}
 use Rattle.std.proofs.lemmas.Bool.{eqb-true}
 use Rattle.field_groups.specs.Field.{Field}
 use Rattle.message_tables.specs.Tables.{Required, Row, RepeatingGroup, Message, Said, Tag, Spells}
-use Rattle.message_tables.specs.Tables.{Table, said_at, lines_of, is_needed, value_at, Item, One}
-use Rattle.message_tables.specs.Tables.{Party, Lines, Role, party_in}
+use Rattle.message_tables.specs.Tables.{Table, said_at, lines_of, is_needed, value_at, Item, Party}
+use Rattle.message_tables.specs.Tables.{Role, party_in}
 use Rattle.message_tables.specs.Content.{content}
 use Rattle.row_values.specs.Kinds.{Kind, judge}
 use Rattle.sound_laws.specs.Sound.{IsClear, IsSaid, IsGroup, IsItem, IsSound}
@@ -50,30 +50,28 @@ module _ (table : Table Kind) (m : Message) (sound : IsSound judge table m) wher
       (ap (λ o. has_place o (Tag tag)) outline_is ∙ row_there table.items tag ∙ ap is_some e)
 
   -- what is said at the tag of this row, where the table has it
-  pub spelled_by : (row : Row Kind) → IsRow table.items row
-      → IsSpelled fields row.kind (at row.tag)
-  spelled_by row is = by (row_of_tag row.tag table.items) refl is
-    where
-      by : (o : Option (Row Kind)) → row_of_tag row.tag table.items ≡ o
-          → IfSome o (λ other. other ≡ row) → IsSpelled fields row.kind (at row.tag)
-      by None e is =
-          let P : Said → Type 0 = λ said. IsSpelled fields row.kind said in
-          subst P (sym (no_row row.tag e)) (says_nothing fields row.kind)
-      by (Some other) e is =
-          let said = row_at row.tag row (e ∙ ap (λ (r : Row Kind). Some r) is) in
-          record { spelled = said.spelled; clear = said.clear }
+  pub spelled_by : (row : Row Kind) → IsRow table.items row → IsSpelled fields row.kind (at row.tag)
+  spelled_by row is =
+      elim (row_of_tag row.tag table.items) as (λ o. row_of_tag row.tag table.items ≡ o
+      → IfSome o (λ other. other ≡ row) → IsSpelled fields row.kind (at row.tag)) [
+        | None ↦ λ e is. subst (λ (said : Said). IsSpelled fields row.kind said)
+            (sym (no_row row.tag e)) (says_nothing fields row.kind)
+        | Some other ↦ λ e is.
+            let said = row_at row.tag row (e ∙ ap (λ (r : Row Kind). Some r) is) in
+            record { spelled = said.spelled; clear = said.clear }
+      ] refl is
 
   -- a row that the table has, and each message says
   pub is_there : (row : Row Kind) → (need : row.need ≡ Required)
       → has_row table.items row.tag ≡ true → IsRow table.items row → IsSome (at row.tag)
-  is_there row need there is = by (row_of_tag row.tag table.items) refl there is
-    where
-      by : (o : Option (Row Kind)) → row_of_tag row.tag table.items ≡ o → is_some o ≡ true
-          → IfSome o (λ other. other ≡ row) → IsSome (at row.tag)
-      by None e there is = absurd cc
-      by (Some other) e there is =
-          (row_at row.tag row (e ∙ ap (λ (r : Row Kind). Some r) is)).needed
-          (ap (λ n. is_needed n fields) need)
+  is_there row need there is =
+      elim (row_of_tag row.tag table.items) as (λ o. row_of_tag row.tag table.items ≡ o
+      → is_some o ≡ true → IfSome o (λ other. other ≡ row) → IsSome (at row.tag)) [
+        | None ↦ λ e there is. absurd (cc there)
+        | Some other ↦ λ e there is.
+            (row_at row.tag row (e ∙ ap (λ (r : Row Kind). Some r) is)).needed
+            (ap (λ n. is_needed n fields) need)
+      ] refl there is
 
   -- the value of a tag that one row alone writes
   pub value_is : (tag : ℕ) → is_alone tag table.items ≡ true → value_at tag fields ≡ at tag
@@ -89,25 +87,20 @@ module _ (table : Table Kind) (m : Message) (sound : IsSound judge table m) wher
       subst P found.0 found.1
 
   -- the party of a role that has a place
-  role_in : (some : List (Item Kind)) (role : ℕ)
-      → has_place (outline_of some) (Role role) ≡ true
+  role_in : (some : List (Item Kind)) (role : ℕ) → has_place (outline_of some) (Role role) ≡ true
       → AllByRecursion (IsItem judge fields m) some
       → said_at m.cells (Role role) ≡ party_in role (lines_of 453 m.groups)
   role_in [] role has said = absurd cc
-  role_in (One row ∷ some) role has said = role_in some role has said.1
-  role_in (Lines group ∷ some) role has said = role_in some role has said.1
   role_in (Party first ∷ some) role has said =
-      by (first == role) refl has (λ later. role_in some role later said.1)
-    where
-      by : (b : Bool) → (first == role) ≡ b → (b || has_place (outline_of some) (Role role)) ≡ true
-          → (has_place (outline_of some) (Role role) ≡ true
-          → said_at m.cells (Role role) ≡ party_in role (lines_of 453 m.groups))
-          → said_at m.cells (Role role) ≡ party_in role (lines_of 453 m.groups)
-      by true e h later =
-          let P : ℕ → Type 0 =
-          λ r. said_at m.cells (Role r) ≡ party_in r (lines_of 453 m.groups) in
-          subst P (eqb-true first role e) said.0
-      by false e h later = later h
+      elim (first == role) as (λ b. (first == role) ≡ b
+      → (b || has_place (outline_of some) (Role role)) ≡ true
+      → said_at m.cells (Role role) ≡ party_in role (lines_of 453 m.groups)) [
+        | true ↦ λ e h.
+            subst (λ (r : ℕ). said_at m.cells (Role r) ≡ party_in r (lines_of 453 m.groups))
+            (eqb-true first role e) said.0
+        | false ↦ λ e h. role_in some role h said.1
+      ] refl has
+  role_in (item ∷ some) role has said = role_in some role has said.1
 
   pub role_is : (role : ℕ) → has_place (outline_of table.items) (Role role) ≡ true
       → said_at m.cells (Role role) ≡ party_in role (lines_of 453 m.groups)

@@ -1,8 +1,8 @@
 -- What rules make of a sound message is sound in the table that they make, where each rule makes an
 -- item that it says: the shapes of such items, whatever the kinds of the rules are.
 use Rattle.std.proofs.Common.{◌≡◌, ℕ, List, [], ◌∷◌, Bool, true, false, Option, Some, None, refl}
-use Rattle.std.proofs.Common.{sym, ap, subst, ◌∙◌, append-nil}
-use Rattle.std.specs.Prelude.{IfSome, option_to_list, is_some}
+use Rattle.std.proofs.Common.{sym, ap, subst, ◌∙◌}
+use Rattle.std.specs.Prelude.{IfSome, is_some, option_to_list}
 use Rattle.std.specs.List.{AllByRecursion, flat_map}
 use Rattle.field_groups.specs.Field.{Field}
 use Rattle.message_tables.specs.Tables.{Row, Item, One, Party, Lines, RepeatingGroup, Message}
@@ -11,6 +11,7 @@ use Rattle.message_tables.specs.Tables.{lines_of}
 use Rattle.message_tables.specs.Content.{content}
 use Rattle.row_values.specs.Kinds.{Kind, judge}
 use Rattle.sound_laws.specs.Sound.{IsGroup, IsItem, IsSaid, IsSound}
+use Rattle.sound_laws.proofs.Each.{each_by, each_option, each_whole}
 use Rattle.sound_laws.proofs.ContentValues.{GroupSaid, is_alone, value_said}
 use Rattle.sound_laws.proofs.RowsSaid.{row_of_tag}
 use Rattle.rule_rows.specs.ByRules.{At, Grouped, Kinds, by_rules, has_any, outline_of}
@@ -19,7 +20,7 @@ use Rattle.rule_rows.proofs.Items.{can_go, count_is, has_one, has_row, item_if, 
 use Rattle.rule_rows.proofs.Items.{turned, turned_group}
 use Rattle.rule_rows.proofs.Looked.{AreKinds, AreOwn, IsFound, has_lines_of, lines_by, rule_at}
 use Rattle.rule_rows.proofs.Looked.{said_by, says}
-use Rattle.rule_rows.proofs.Made.{IsMade, groups_made, items_made, made, outline_made}
+use Rattle.rule_rows.proofs.Made.{IsMade, made, outline_made}
 use Rattle.rule_rows.proofs.Said as source
 
 -- a row that may go, where there is one
@@ -111,8 +112,7 @@ module _ {Rule : Type 0} (g : Goes Rule) where
 
   -- the value of a tag that one row alone writes
   pub value_is : AreGroups → (rule : Rule) (tag : ℕ) → g.kinds.target rule ≡ At (Tag tag)
-      → Found rule → is_alone tag target.items ≡ true
-      → value_at tag after ≡ g.kinds.said g.m rule
+      → Found rule → is_alone tag target.items ≡ true → value_at tag after ≡ g.kinds.said g.m rule
   value_is groups rule tag is found alone =
       value_said judge w tag target.items alone groups ∙ said_is rule (Tag tag) is found
 
@@ -206,21 +206,14 @@ module _ {Rule : Type 0} (g : Goes Rule) where
   abbrev pub RuleGood : Rule → Type 0
   RuleGood rule = IsGood (g.make rule)
 
-  pub groups_are : AllByRecursion RuleGood g.all → AreGroups
-  groups_are h = groups_made g.kinds items g.make (GroupSaid judge w) g.all (by g.all h)
-    where
-      one : (item : Option (Item Kind)) → HasGroups item
-          → AllByRecursion (GroupSaid judge w) (flat_map groups_of (option_to_list item))
-      one None h = tt
-      one (Some item) h =
-          subst (λ (gs : List (RepeatingGroup Kind)). AllByRecursion (GroupSaid judge w) gs)
-          (sym (append-nil (groups_of item))) h
+  abbrev makes : Rule → List (Item Kind)
+  makes rule = option_to_list (g.make rule)
 
-      by : (rules : List Rule) → AllByRecursion RuleGood rules → AllByRecursion
-          (λ rule. AllByRecursion (GroupSaid judge w)
-          (flat_map groups_of (option_to_list (g.make rule)))) rules
-      by [] h = tt
-      by (rule ∷ rules) h = (one (g.make rule) h.0.groups, by rules h.1)
+  pub groups_are : AllByRecursion RuleGood g.all → AreGroups
+  groups_are h = each_whole (GroupSaid judge w) groups_of target.items
+      (each_whole (λ item. AllByRecursion (GroupSaid judge w) (groups_of item)) makes
+      g.all (each_by RuleGood _ (λ rule good. each_option _ (g.make rule)
+      good.groups) g.all h))
 
   -- WHAT THE RULES MAKE IS SOUND
   pub sound_made : AllByRecursion RuleGood g.all → IsSound judge target w
@@ -230,17 +223,7 @@ module _ {Rule : Type 0} (g : Goes Rule) where
         letter = g.sound.letter;
         places = ap (λ o. o.places) same;
         counts = ap (λ o. o.counts) same;
-        items = items_made g.kinds items g.make (IsItem judge after w) g.all
-            (by g.all (groups_are h) h);
+        items = each_whole (IsItem judge after w) makes g.all
+            (each_by RuleGood _ (λ rule good. each_option (IsItem judge after w) (g.make rule)
+            (good.said (groups_are h))) g.all h);
       }
-    where
-      one : (item : Option (Item Kind)) → Says item
-          → AllByRecursion (IsItem judge after w) (option_to_list item)
-      one None h = tt
-      one (Some item) h = (h, tt)
-
-      by : (rules : List Rule) → AreGroups → AllByRecursion RuleGood rules → AllByRecursion
-          (λ rule. AllByRecursion (IsItem judge after w) (option_to_list (g.make rule))) rules
-      by [] groups h = tt
-      by (rule ∷ rules) groups h =
-          (one (g.make rule) (h.0.said groups), by rules groups h.1)

@@ -1,28 +1,71 @@
 -- What the code writes of fields at no fault by rules that their table has the rows for is what the
 -- rules write of their message, and it lacks what that lacks, whatever the direction is.
-use Rattle.std.proofs.Common.{◌≡◌, ◌∙◌, ℕ, List, [], ◌∷◌, ◌++◌, Bool, false, None, refl, sym, ap}
-use Rattle.std.proofs.Common.{map}
+use Rattle.std.proofs.Common.{◌≡◌, ◌∙◌, ℕ, List, [], ◌∷◌, ◌++◌, Bool, true, false, Option, None}
+use Rattle.std.proofs.Common.{refl, sym, ap, map}
+use Rattle.message_tables.specs.Tables.{Item, Message, first_of, or_else, Cell, Said, Table, Tag}
+use Rattle.message_tables.specs.Tables.{lines_of, said_at}
+use Rattle.row_values.specs.Kinds.{Kind, judge}
+use Rattle.rule_rows.specs.ByRules.{Kinds, Outline, content_by, fields_at, outline, outline_of}
+use Rattle.rule_rows.specs.ByRules.{placed, rule_fields, with_rule, lack_by}
+use Rattle.rule_rows.proofs.Looked.{AreKinds}
+use Rattle.rule_rows.proofs.Made.{nothing_at}
 use Rattle.std.specs.List.{AllByRecursion, flat_map}
 use Rattle.field_groups.specs.Field.{Field}
 use Rattle.message_tables.specs.Content.{cell_fields, group_fields}
 use Rattle.message_tables.specs.FirstFault.{first_fault, message_in}
-use Rattle.message_tables.specs.Tables.{Cell, Message, Said, Table, Tag, first_of, lines_of}
-use Rattle.message_tables.specs.Tables.{or_else, said_at}
 use Rattle.row_values.specs.CodeKinds.{kind_of}
-use Rattle.row_values.specs.Kinds.{Kind, judge}
 use Rattle.sound_laws.proofs.RowsSaid.{row_of_tag}
-use Rattle.rule_rows.specs.ByRules.{Kinds, content_by, lack_by, outline, outline_of, rule_fields}
 use Rattle.rule_rows.specs.Rules.{Rule, with_own}
 use Rattle.rule_rows.specs.Texts.{Has, Own as OwnText}
 use Rattle.rule_rows.proofs.FieldsSaid.{IsRead, decimal_said, each_read, kept_said, moment_said}
 use Rattle.rule_rows.proofs.FieldsSaid.{row_says, text_said}
-use Rattle.rule_rows.proofs.Looked.{AreKinds}
-use Rattle.rule_rows.proofs.Placed.{placed_content, placed_lack}
 use Rattle.rule_rows.specs.declared.rules.Rule.{Rule as CodeRule}
 use Rattle.rule_rows.specs.declared.rules.Rule.TheVariants as rules
 use Rattle.rule_rows.specs.declared.source.Source.{Source}
 use Rattle.rule_rows.specs.CodeRules.{AreFor, Code, lacked, reading, rule_of, stands, table_of}
 use Rattle.rule_rows.specs.CodeRules.{writes}
+
+-- ---- rules that a table has no place for write nothing, and lack nothing
+
+module _ {Rule : Type 0} (kinds : Kinds Rule) (are : AreKinds kinds) (m : Message)
+    (items : List (Item Kind)) (there : outline m ≡ outline_of items) where
+  has_is : (rule : Rule) (b : Bool) → kinds.has (outline_of items) rule ≡ b
+      → kinds.has (outline m) rule ≡ b
+  has_is rule b e = ap (λ (o : Outline). kinds.has o rule) there ∙ e
+
+  nothing : (rule : Rule) → kinds.has (outline m) rule ≡ false → rule_fields kinds m rule ≡ []
+  nothing rule e =
+      (λ i. fields_at (kinds.target rule) (are.none m rule e i) (are.no_lines m rule e i))
+      ∙ nothing_at (kinds.target rule)
+
+  pub placed_content : (all : List Rule)
+      → content_by kinds (placed kinds items all) m ≡ content_by kinds all m
+  placed_content [] = refl
+  placed_content (rule ∷ all) =
+      elim (kinds.has (outline_of items) rule) as (λ b. kinds.has (outline_of items) rule ≡ b
+      → content_by kinds (with_rule b rule (placed kinds items all)) m
+      ≡ rule_fields kinds m rule ++ content_by kinds all m) [
+        | true ↦ λ e. ap (λ fs. rule_fields kinds m rule ++ fs) (placed_content all)
+        | false ↦ λ e. placed_content all
+            ∙ ap (λ fs. fs ++ content_by kinds all m) (sym (nothing rule (has_is rule false e)))
+      ] refl
+
+  pub placed_lack : ((rule : Rule) → kinds.has (outline m) rule ≡ false
+      → kinds.lack m rule ≡ None) → (all : List Rule)
+      → first_of (kinds.lack m) (placed kinds items all) ≡ first_of (kinds.lack m) all
+  unfolding first_of
+  placed_lack none [] = refl
+  placed_lack none (rule ∷ all) =
+      elim (kinds.has (outline_of items) rule) as (λ b. kinds.has (outline_of items) rule ≡ b
+      → first_of (kinds.lack m) (with_rule b rule (placed kinds items all))
+      ≡ or_else (kinds.lack m rule) (first_of (kinds.lack m) all)) [
+        | true ↦ λ e. ap (or_else (kinds.lack m rule)) (placed_lack none all)
+        | false ↦ λ e. placed_lack none all
+            ∙ ap (λ (o : Option ℕ). or_else o (first_of (kinds.lack m) all))
+            (sym (none rule (has_is rule false e)))
+      ] refl
+
+-- ---- what the code writes
 
 -- FIELDS AT NO FAULT ARE A MESSAGE: at each tag but those apart it says what they say by the row of
 -- the tag, and it has the groups that they have, and the places of its table.

@@ -17,7 +17,7 @@ ghost use Rattle.rule_rows.specs.Rows.{AreWritten, IsWritten, fixed_text, group_
 ghost use Rattle.rule_rows.specs.Rows.{have_written_lines, is_written, line_by, row_fields};
 ghost use Rattle.value_kinds.specs.CodeKinds.{value_kind_of};
 
-use field_groups::{Field, Fields, put_field, put_number};
+use field_groups::{Field, Fields, put_field, put_known, put_number};
 use message_tables::{Item, Line, Lookup, Need, RepeatingGroup, Row, Table, line, line_end};
 use row_values::{
     Kind, Part, Value, code, day, fine_stamp, flag, number, price, put_content, qty, reason, stamp,
@@ -53,7 +53,7 @@ pub fn put_text(out: &mut Vec<u8>, tag: u32, text: Option<&[u8]>) -> Result<(), 
 {
     match text {
         None => Ok(()),
-        Some(text) => put_field(out, tag, text),
+        Some(text) => put_known(out, tag, text),
     }
 }
 
@@ -180,6 +180,7 @@ fn count_lines(members: &[Field<'_>], first: u32) -> usize
 /// # Errors
 ///
 /// As [`put_lines`].
+#[inline(always)]
 pub fn put_count(out: &mut Vec<u8>, tag: u32, count: usize) -> Result<(), AllocError>
     requires { count ≤ 256 }
     ensures done { OnOk result (out.new.items
@@ -271,6 +272,7 @@ fn group_at(items: &[Item<Kind>], count: u32) -> Option<&RepeatingGroup<Kind>>
 }
 
 /// Appends the lines of the group of a count, where a table has it.
+#[inline(never)]
 fn put_found(
     out: &mut Vec<u8>,
     fields: &Fields<'_>,
@@ -289,11 +291,12 @@ fn put_found(
 }
 
 /// Appends the lines of the group of a count, as a message says them that is read by a table. Of a
-/// count that no field has there is nothing to write.
+/// count that no field has there is nothing to write, and no call is made.
 ///
 /// # Errors
 ///
 /// `AllocError` for want of memory; what stood in `out` stays, and a part may stand behind it.
+#[inline(always)]
 pub fn put_lines(
     out: &mut Vec<u8>,
     fields: &Fields<'_>,

@@ -1,6 +1,6 @@
 //! Texts that stand in fields, read and written.
 
-ghost use Rattle.std.specs.Prelude.{◌≡◌, ◌++◌, IfSome, OnOk};
+ghost use Rattle.std.specs.Prelude.{◌≡◌, ◌++◌, IfSome, OnOk, Some};
 ghost use Rattle.std.specs.Io.{StartsWith};
 ghost use Rattle.std.specs.Option.{option_map};
 ghost use Rattle.typed_fields.specs.Number.{IsNumber};
@@ -13,7 +13,7 @@ ghost use Rattle.rule_rows.specs.Texts.{byte_of, decimal_of, decimal_text, kept,
 ghost use Rattle.rule_rows.specs.Texts.{number_of};
 
 use crate::group_lines::put_text;
-use field_groups::Fields;
+use field_groups::{Fields, put_field};
 use message_tables::{Lookup, Mark};
 use row_values::{Kind, put_dec};
 use std::alloc::AllocError;
@@ -90,6 +90,55 @@ pub fn put_decimal(out: &mut Vec<u8>, tag: u32, text: Option<&[u8]>) -> Result<(
     }
 }
 
+/// Appends the field of a text, where it is of the profile of a kind.
+#[inline(never)]
+fn put_kept_by(
+    out: &mut Vec<u8>,
+    tag: u32,
+    fields: &Fields<'_>,
+    kind: &Kind,
+    text: &[u8],
+) -> Result<(), AllocError>
+    ensures done { OnOk result (out.new.items ≡ out.old.items
+        ++ body_of (cell_fields (Tag tag, kept_by fields.now (kind_of kind.now) text.now))) }
+    ensures kept { StartsWith out.new.items out.old.items }
+{
+    match kind.judge(fields, text) {
+        Mark::Good => put_field(out, tag, text),
+        _ => Ok(()),
+    }
+}
+
+/// Appends the field of the value of a tag, where it is of the profile of a kind. Where none
+/// stands, no call is made.
+#[inline(always)]
+pub(crate) fn put_kept(
+    out: &mut Vec<u8>,
+    tag: u32,
+    fields: &Fields<'_>,
+    from: u32,
+    kind: &Kind,
+) -> Result<(), AllocError>
+    ensures done { OnOk result (out.new.items ≡ out.old.items
+        ++ body_of (cell_fields (Tag tag, kept fields.now from (kind_of kind.now)))) }
+    ensures kept { StartsWith out.new.items out.old.items }
+{
+    match fields.value(from) {
+        None => Ok(()),
+        Some(text) => put_kept_by(out, tag, fields, kind, text),
+    }
+}
+
+/// Appends the field of a moment in the fine form, to its milliseconds.
+#[inline(never)]
+fn put_cut(out: &mut Vec<u8>, tag: u32, text: &[u8]) -> Result<(), AllocError>
+    ensures done { OnOk result (out.new.items ≡ out.old.items
+        ++ body_of (cell_fields (Tag tag, Some (cut_text text.now)))) }
+    ensures kept { StartsWith out.new.items out.old.items }
+{
+    put_field(out, tag, cut_text(text))
+}
+
 /// Appends the field of a moment in the fine form, to its milliseconds, if there is one.
 ///
 /// # Errors
@@ -103,6 +152,6 @@ pub fn put_moment(out: &mut Vec<u8>, tag: u32, text: Option<&[u8]>) -> Result<()
 {
     match text {
         None => Ok(()),
-        Some(text) => put_text(out, tag, Some(cut_text(text))),
+        Some(text) => put_cut(out, tag, text),
     }
 }

@@ -1,10 +1,8 @@
 -- A sound message of FIX 5.0 SP2 stays sound where its month is completed by its date.
 use Rattle.std.proofs.Common.{◌≡◌, ℕ, List, [], ◌∷◌, map, Some, None, Bool, true, false, refl, sym}
-use Rattle.std.proofs.Common.{ap, subst, ◌∙◌, codes, take, arith}
+use Rattle.std.proofs.Common.{ap, subst, ◌∙◌, codes, take}
 use Rattle.std.specs.Prelude.{IfSome, not, ◌&&◌, ◌||◌, ◌==◌}
 use Rattle.std.specs.List.{AllByRecursion, flat_map, list_any, list_all}
-use Rattle.std.proofs.lemmas.Bool.{eqb-true}
-use Rattle.std.proofs.lemmas.Bool.Decides.{nat_tests}
 use Rattle.field_groups.specs.Field.{Field}
 use Rattle.field_groups.specs.Data.{is_data_tag}
 use Rattle.message_tables.specs.Tables.{Verdict, Spells, Need, Required, Optional, Lenient, Fixed}
@@ -17,10 +15,10 @@ use Rattle.row_values.specs.Kinds.{Kind, MonthBeside, judge, verdict_of, date_at
 use Rattle.rows_fix50.specs.Header.{completed, month_by}
 use Rattle.sound_laws.specs.Sound.{IsClear, IsSaid, IsItem, IsSound, places_of}
 use Rattle.sound_laws.specs.Complete.{HasMonthOfDate}
-use Rattle.sound_laws.proofs.Each.{both}
+use Rattle.sound_laws.proofs.Each.{all_true, apart_same, at_equal, both}
 use Rattle.sound_laws.proofs.ContentValues.{value_at-append, row_value}
 use Rattle.sound_laws.proofs.ReadSound.{row_passes}
-use Rattle.sound_laws.proofs.RowsSaid.{text_again}
+use Rattle.sound_laws.proofs.RowsSaid.{free_said}
 use Rattle.sound_laws.proofs.Completed.{other_said, month_said, same_places}
 use Rattle.sound_laws.proofs.Judged50.{ours_kind, AreAlike, judged_again, month_of_date}
 use Rattle.sound_laws.proofs.SpelledAgain.{clear_front}
@@ -43,9 +41,13 @@ abbrev pub of_month : Bool → Kind → Bool
 of_month true kind = month_kind kind
 of_month false kind = true
 
+abbrev ours_tests : Bool → Row Kind → List Bool
+ours_tests timed row =
+    not (is_data_tag row.tag) ∷ ours_need row.need ∷ ours_kind timed row.kind
+    ∷ of_month (row.tag == 200) row.kind ∷ []
+
 abbrev pub is_ours_row : Bool → Row Kind → Bool
-is_ours_row timed row = not (is_data_tag row.tag)
-    && (ours_need row.need && (ours_kind timed row.kind && of_month (row.tag == 200) row.kind))
+is_ours_row timed row = list_all (λ b. b) (ours_tests timed row)
 
 abbrev pub is_ours : Bool → Item Kind → Bool
 is_ours timed = row_passes (is_ours_row timed)
@@ -58,13 +60,8 @@ pub record IsOurs (timed : Bool) (row : Row Kind) : Type 0 where
   pub month : of_month (row.tag == 200) row.kind ≡ true
 
 pub ours : (timed : Bool) (row : Row Kind) → is_ours_row timed row ≡ true → IsOurs timed row
-ours timed row h =
-    let a = both (not (is_data_tag row.tag)) (ours_need row.need && (ours_kind timed row.kind
-    && of_month (row.tag == 200) row.kind)) h in
-    let b = both (ours_need row.need)
-    (ours_kind timed row.kind && of_month (row.tag == 200) row.kind) a.1 in
-    let c = both (ours_kind timed row.kind) (of_month (row.tag == 200) row.kind) b.1 in
-    record { bare = a.0; need = b.0; kind = c.0; month = c.1 }
+ours timed row h = let t = all_true (λ b. b) (ours_tests timed row) h in
+    record { bare = t.0; need = t.1.0; kind = t.1.1.0; month = t.1.1.1.0 }
 
 -- a code that is among some is so where it is read again
 abbrev pub KeepsType : List Field → List Field → Type 0
@@ -79,29 +76,24 @@ kept_test false b kept h = absurd cc
 
 pub kept_need : (need : Need) → ours_need need ≡ true → (before after : List Field)
     → KeepsType before after → is_needed need after ≡ true → is_needed need before ≡ true
-kept_need Required h before after kept n = refl
-kept_need Optional h before after kept n = n
-kept_need Lenient h before after kept n = n
 kept_need (When ((Is tag listed ∷ []) ∷ [])) h before after kept n =
-    let P : ℕ → Type 0 = λ t. is_needed (When ((Is t listed ∷ []) ∷ [])) after ≡ true
-    → is_needed (When ((Is t listed ∷ []) ∷ [])) before ≡ true in
-    subst P (sym (eqb-true tag 150 h))
-    (λ n. kept_test (is_listed listed (value_at 150 after))
-    (is_listed listed (value_at 150 before)) (kept listed) n) n
-kept_need other h before after kept n = absurd cc
+    at_equal (λ t. is_needed (When ((Is t listed ∷ []) ∷ [])) after ≡ true
+    → is_needed (When ((Is t listed ∷ []) ∷ [])) before ≡ true) tag 150 h
+    (kept_test (is_listed listed (value_at 150 after)) (is_listed listed (value_at 150 before))
+    (kept listed)) n
+kept_need (When condition) h before after kept n = absurd cc
+kept_need need h before after kept n = n
 
-says_again : (need : Need) → ours_need need ≡ true → (j : List ℕ → Verdict) (said : Said)
-    → IfSome said (λ text. j text ≡ Spells text) → says need j said ≡ said
-says_again (Fixed text) h j said e = absurd cc
-says_again need h j said e = text_again j said e
+free_says : (need : Need) → ours_need need ≡ true → (j : List ℕ → Verdict) (said : Said)
+    → says need j said ≡ said >>= (λ bytes. text_of (j bytes))
+free_says (Fixed text) h j said = absurd cc
+free_says need h j said = refl
 
 month_judged : (kind : Kind) → month_kind kind ≡ true → (fields : List Field) (day : List ℕ)
     → date_at 541 fields ≡ Some day → judge fields kind (take 6 day) ≡ Spells (take 6 day)
 month_judged (MonthBeside date) h fields day at =
-    let is : date ≡ 541 = eqb-true date 541 h in
-    let P : ℕ → Type 0 =
-    λ t. judge fields (MonthBeside t) (take 6 day) ≡ Spells (take 6 day) in
-    subst P (sym is) (month_of_date fields day at)
+    at_equal (λ t. judge fields (MonthBeside t) (take 6 day) ≡ Spells (take 6 day)) date 541 h
+    (month_of_date fields day at)
 month_judged other h fields day at = absurd cc
 
 -- ---- a row that says what it said, where the fields beside it say the same
@@ -116,14 +108,10 @@ module _ (timed : Bool) (before after : List Field) (alike : AreAlike timed befo
 
   pub same_kept : (row : Row Kind) → IsOurs timed row → (said : Said)
       → IsSaid judge before row said → IsSaid judge after row said
-  same_kept row o said s =
-      let spelled = judged row.kind o.kind said s.spelled in
-      record {
-        needed = λ n. s.needed (kept_need row.need o.need before after kept n);
-        spelled = spelled;
-        again = says_again row.need o.need (judge after row.kind) said spelled;
-        clear = s.clear;
-      }
+  same_kept row o said s = free_said after row said
+      (λ n. s.needed (kept_need row.need o.need before after kept n))
+      (free_says row.need o.need (judge after row.kind) said)
+      (judged row.kind o.kind said s.spelled) s.clear
 
 -- ---- a message
 
@@ -142,31 +130,26 @@ module _ (timed : Bool) (table : Table Kind) (m : Message) where
       value_at tag (item_fields (completed m) item) ≡ value_at tag (item_fields m item)
   same_item tag other (Party role) = refl
   same_item tag other (Lines group) = refl
-  same_item tag other (One row) = by (row.tag == 200) refl
-    where
-      by : (b : Bool) → (row.tag == 200) ≡ b →
-          value_at tag (item_fields (completed m) (One row))
-          ≡ value_at tag (item_fields m (One row))
-      by false e = ap (λ (s : Said). value_at tag (cell_fields (Tag row.tag, s)))
-          (other_said date m.cells (Tag row.tag) e)
-      by true e =
-          let apart : (row.tag == tag) ≡ false = grind (arith, nat_tests) in
-          row_value judge (completed m) tag row apart ∙ sym (row_value judge m tag row apart)
+  same_item tag other (One row) =
+      elim (row.tag == 200) as (λ b. (row.tag == 200) ≡ b
+      → value_at tag (item_fields (completed m) (One row))
+      ≡ value_at tag (item_fields m (One row))) [
+        | true ↦ λ e.
+            let apart =
+            at_equal (λ t. (t == tag) ≡ false) row.tag 200 e (apart_same tag 200 other) in
+            row_value judge (completed m) tag row apart ∙ sym (row_value judge m tag row apart)
+        | false ↦ λ e. ap (λ (s : Said). value_at tag (cell_fields (Tag row.tag, s)))
+            (other_said date m.cells (Tag row.tag) e)
+      ] refl
 
   same_value : (tag : ℕ) → (tag == 200) ≡ false → (items : List (Item Kind)) →
       value_at tag (flat_map (item_fields (completed m)) items)
       ≡ value_at tag (flat_map (item_fields m) items)
   same_value tag other [] = refl
   same_value tag other (item ∷ items) =
-      let here = same_item tag other item in
-      let rest = same_value tag other items in
-      let joined : or_else (value_at tag (item_fields (completed m) item))
-      (value_at tag (flat_map (item_fields (completed m)) items))
-      ≡ or_else (value_at tag (item_fields m item))
-      (value_at tag (flat_map (item_fields m) items)) = λ i. or_else (here i) (rest i) in
       value_at-append tag (item_fields (completed m) item)
       (flat_map (item_fields (completed m)) items)
-      ∙ joined
+      ∙ (λ i. or_else (same_item tag other item i) (same_value tag other items i))
       ∙ sym (value_at-append tag (item_fields m item) (flat_map (item_fields m) items))
 
   alike : AreAlike timed before after
@@ -177,8 +160,7 @@ module _ (timed : Bool) (table : Table Kind) (m : Message) where
   }
 
   kept_type : KeepsType before after
-  kept_type listed h =
-      ap (is_listed listed) (sym (same_value 150 refl table.items)) ∙ h
+  kept_type listed h = ap (is_listed listed) (sym (same_value 150 refl table.items)) ∙ h
 
   module _ (there : list_any (is_place (Tag 200)) (flat_map places_of table.items) ≡ true)
       (at_date : date_at 541 before ≡ date) (clear : IfSome date IsClear)
@@ -190,16 +172,10 @@ module _ (timed : Bool) (table : Table Kind) (m : Message) where
     month_kept : (row : Row Kind) → IsOurs timed row → month_kind row.kind ≡ true → (d said : Said)
         → date_at 541 after ≡ d → IfSome d IsClear → IsSaid judge before row said
         → IsSaid judge after row (month_by d said)
-    month_kept row o k None said at c s =
-        same_kept timed before after alike kept_type row o said s
-    month_kept row o k (Some day) said at c s =
-        let spelled = month_judged row.kind k after day at in
-        record {
-          needed = λ n. refl;
-          spelled = spelled;
-          again = says_again row.need o.need (judge after row.kind) (Some (take 6 day)) spelled;
-          clear = clear_front 6 day c;
-        }
+    month_kept row o k None said at c s = same_kept timed before after alike kept_type row o said s
+    month_kept row o k (Some day) said at c s = free_said after row (Some (take 6 day)) (λ n. refl)
+        (free_says row.need o.need (judge after row.kind) (Some (take 6 day)))
+        (month_judged row.kind k after day at) (clear_front 6 day c)
 
     row_kept : (row : Row Kind) → IsOurs timed row
         → IsSaid judge before row (said_at m.cells (Tag row.tag))
@@ -212,15 +188,11 @@ module _ (timed : Bool) (table : Table Kind) (m : Message) where
             (sym (other_said date m.cells (Tag row.tag) e))
             (same_kept timed before after alike kept_type row o (said_at m.cells (Tag row.tag)) s)
         by true e k =
-            let is : row.tag ≡ 200 = eqb-true row.tag 200 e in
-            let said : said_at (completed m).cells (Tag row.tag)
-            ≡ month_by date (said_at m.cells (Tag row.tag)) =
-            ap (λ (t : ℕ). said_at (completed m).cells (Tag t)) is
-            ∙ month_said date m.cells month_there
-            ∙ ap (λ (t : ℕ). month_by date (said_at m.cells (Tag t))) (sym is) in
-            subst (λ (said : Said). IsSaid judge after row said) (sym said)
-            (month_kept row o k date (said_at m.cells (Tag row.tag))
-            (alike.date ∙ at_date) clear s)
+            at_equal (λ t. IsSaid judge before row (said_at m.cells (Tag t))
+            → IsSaid judge after row (said_at (completed m).cells (Tag t))) row.tag 200 e
+            (λ s. subst (λ (said : Said). IsSaid judge after row said)
+            (sym (month_said date m.cells month_there))
+            (month_kept row o k date (said_at m.cells (Tag 200)) (alike.date ∙ at_date) clear s)) s
 
     items_kept : (items : List (Item Kind)) → list_all (is_ours timed) items ≡ true
         → AllByRecursion (IsItem judge before m) items
@@ -252,5 +224,4 @@ module _ (timed : Bool) (table : Table Kind) (m : Message) where
     completed_month =
         let same = other_said date m.cells (Tag 541) refl in
         let month = month_said date m.cells month_there in
-        month ∙ twice date (said_at m.cells (Tag 200))
-        ∙ sym (λ i. month_by (same i) (month i))
+        month ∙ twice date (said_at m.cells (Tag 200)) ∙ sym (λ i. month_by (same i) (month i))

@@ -1,9 +1,8 @@
 -- The fields of a message at no fault, and the lines of its groups, over any judge and table.
 use Rattle.std.proofs.Common.{◌≡◌, ℕ, List, [], ◌∷◌, Some, None, Bool, true, false, eqb, refl}
-use Rattle.std.proofs.Common.{subst, arith}
+use Rattle.std.proofs.Common.{subst}
 use Rattle.std.specs.Prelude.{IsSome, not, ◌&&◌}
 use Rattle.std.specs.List.{AllByRecursion}
-use Rattle.std.proofs.lemmas.Bool.Decides.{nat_tests}
 use Rattle.message_tables.specs.declared.table_fault.TableFault.{TableFault}
 use Rattle.message_tables.specs.declared.table_fault.TableFault.TheVariants as faults
 use Rattle.field_groups.specs.Field.{Field}
@@ -11,6 +10,7 @@ use Rattle.message_tables.specs.Tables.{Row, Need, Required, When, Table, Judge,
 use Rattle.message_tables.specs.Tables.{first_of, value_at, has_tag, is_needed, row_at, all_rows}
 use Rattle.message_tables.specs.Tables.{text_of, says}
 use Rattle.message_tables.specs.FirstFault.{wrong, beyond, missing, fault_if, allowed, mark_of}
+use Rattle.std.proofs.lemmas.Bool.{eqb-true}
 pub use Rattle.message_tables.proofs.Members.{Has, IsGood, all_good, has, in_lines_each}
 
 module _ (P : Field → Type 0) where
@@ -20,16 +20,13 @@ module _ (P : Field → Type 0) where
   unfolding first_of
   held tag [] value at each = absurd cc
   held tag (f ∷ fs) value at each =
-      here (eqb f.0 tag) refl (λ later. held tag fs value later each.1)
-    where
-      here : (b : Bool)
-          → eqb f.0 tag ≡ b → (value_at tag fs ≡ Some value → P (tag, value)) → P (tag, value)
-      here true e later =
-          let same : f.0 ≡ tag = grind (arith, nat_tests) in
-          let found : Some f.1 ≡ Some value = rw e at at in
-          let is : f.1 ≡ value = cc in
-          let Q : Field → Type 0 = λ g. P g in subst Q (λ i. (same i, is i)) each.0
-      here false e later = later (rw e at at)
+      elim (eqb f.0 tag) as (λ b. eqb f.0 tag ≡ b → P (tag, value)) [
+        | true ↦ λ e.
+            let same = eqb-true f.0 tag e in
+            let found : Some f.1 ≡ Some value = rw e at at in
+            let is : f.1 ≡ value = cc in subst P (λ i. (same i, is i)) each.0
+        | false ↦ λ e. held tag fs value (rw e at at) each.1
+      ] refl
 
 module _ {Kind : Type 0} (judge : Judge Kind) (table : Table Kind) (fields : List Field) where
   is_there : (needed found : Bool) (fault : TableFault)
@@ -44,8 +41,7 @@ module _ {Kind : Type 0} (judge : Judge Kind) (table : Table Kind) (fields : Lis
 
   -- a needed row that has a good value says it
   by_need : (need : Need) (tag : ℕ) (j : List ℕ → Verdict) (value : List ℕ) (of : List Field)
-      → is_needed need of ≡ true →
-      wrong (tag, allowed need (mark_of (j value))) ≡ None → beyond
+      → is_needed need of ≡ true → wrong (tag, allowed need (mark_of (j value))) ≡ None → beyond
       (tag, allowed need (mark_of (j value))) ≡ None → IsSome (says need j (Some value))
   by_need Required tag j value of n w o = is_spelled tag (j value) w o
   by_need (When condition) tag j value of n w o = is_spelled tag (j value) w o

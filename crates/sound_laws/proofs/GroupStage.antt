@@ -1,88 +1,62 @@
 -- What is written of a sound message has each member of a group in its place.
-use Rattle.std.proofs.Common.{◌≡◌, ◌⊎◌, inl, inr, ◌≤◌, ◌<◌, ◌+◌, ℕ, List, [], ◌∷◌, ◌++◌, length}
-use Rattle.std.proofs.Common.{cond, Option, Some, None, Bool, true, false, refl, sym, ap, subst}
-use Rattle.std.proofs.Common.{◌∙◌, arith, count_by, append_assoc, zero-add}
-use Rattle.std.proofs.lemmas.List.{append-nil}
-use Rattle.std.specs.Prelude.{IsSome, not, nat_le, ◌||◌, ◌==◌, if◌then◌else◌, ◌^◌}
+use Rattle.std.proofs.Common.{◌≡◌, inl, inr, ◌≤◌, ◌<◌, ◌+◌, ℕ, List, [], ◌∷◌, ◌++◌, length, cond}
+use Rattle.std.proofs.Common.{Some, None, Bool, true, false, refl, sym, ap, subst, ◌∙◌, arith}
+use Rattle.std.proofs.Common.{count_by, append_assoc, zero-add}
+use Rattle.std.specs.Prelude.{not, nat_le, ◌||◌, ◌==◌, if◌then◌else◌, ◌^◌}
 use Rattle.std.specs.Fmt.{decimal}
 use Rattle.std.specs.Int.{is_in_range}
 use Rattle.std.specs.Char.{is_ascii_digit}
+use Rattle.std.specs.Str.{bytes_eq}
 use Rattle.std.specs.Str.Parse.{digits_value}
+use Rattle.std.proofs.lemmas.Bool.{eqb-true}
 use Rattle.std.proofs.lemmas.Fmt.{digits_decimal, digits_value-decimal, decimal_nonempty}
 use Rattle.std.proofs.lemmas.Fmt.{length-decimal-le}
+use Rattle.std.proofs.lemmas.Slice.Eq.{bytes_eq-Decides}
 use Rattle.std.specs.List.{AllByRecursion, flat_map, list_all}
 use Rattle.std.proofs.lemmas.Bool.Decides.{nat_tests}
-use Rattle.std.proofs.lemmas.List.Sums.{take_while-cons, sum_by-cons}
+use Rattle.std.proofs.lemmas.List.Sums.{take_while-cons, sum_by-append, sum_by-cons}
 use Rattle.message_tables.specs.declared.table_fault.TableFault.TheVariants as faults
 use Rattle.field_groups.specs.HeadValues.{number_in}
 use Rattle.field_groups.specs.Field.{Field}
-use Rattle.message_tables.specs.Tables.{Need, Required, Row, RepeatingGroup, Item, One, Party}
-use Rattle.message_tables.specs.Tables.{Lines, Judge, Message, Cell, Said, Place, Tag, GroupTags}
-use Rattle.message_tables.specs.Tables.{first_of, has_tag, is_one_of, tags_of, tags_in, lines_of}
-use Rattle.message_tables.specs.Tables.{is_inside, is_needed, groups_of, run}
-use Rattle.message_tables.specs.FirstFault.{Placed, placed_from, fault_if, lines_begun, line_before}
+use Rattle.message_tables.specs.Tables.{Row, RepeatingGroup, Item, Lines, Table, Judge, Message}
+use Rattle.message_tables.specs.Tables.{Cell, GroupTags, first_of, has_tag, is_one_of, tags_of}
+use Rattle.message_tables.specs.Tables.{tags_in, lines_of, is_inside, run}
+use Rattle.message_tables.specs.FirstFault.{placed_from, fault_if, lines_begun, line_before}
 use Rattle.message_tables.specs.FirstFault.{is_opened, misplaced, in_groups, is_of_group}
-use Rattle.message_tables.specs.Content.{cell_fields, line_fields, group_fields, item_fields}
-use Rattle.message_tables.proofs.Few.{IsPlain}
+use Rattle.message_tables.specs.Content.{line_fields, group_fields, item_fields}
 use Rattle.field_groups.proofs.Digits.{numerals}
-use Rattle.sound_laws.specs.Sound.{AreSaid, IsLine, IsItem}
-use Rattle.sound_laws.proofs.Each.{are_apart, both, either, none_is, not_true, one_of, same_number}
-use Rattle.sound_laws.proofs.Stages.{item_tags, AreOf, Free, back, lines_of_tags, item_of}
-use Rattle.sound_laws.proofs.Stages.{each_of, free_after, others_apart, none_free}
-use Rattle.sound_laws.proofs.Found.{Begins, HasFirst, Outside, GroupsApart, group_begins}
-use Rattle.sound_laws.proofs.Found.{inside_of, outside_of, items_of, run_is}
+use Rattle.sound_laws.specs.Sound.{IsGroup, IsItem}
+use Rattle.sound_laws.proofs.Each.{apart_first, apart_same, each_at, each_part, neither, all_false}
+use Rattle.sound_laws.proofs.Each.{all_true, both, each_by, each_none, each_swapped, each_two}
+use Rattle.sound_laws.proofs.Each.{either, either_true, none_is, same_number}
+use Rattle.sound_laws.proofs.Stages.{lines_each, of_rows, item_tags, GroupFits, IsFit, each_of}
+use Rattle.sound_laws.proofs.Stages.{item_tagged, items_tagged}
+use Rattle.sound_laws.proofs.Found.{Begins, Once, Outside, are_after, group_begins, is_before}
+use Rattle.sound_laws.proofs.Found.{lines_run}
 
--- each field in its place, with the fields before it, backwards, and those after it
-abbrev pub InPlace : (Placed → Type 0) → List Field → List Field → List Field → Type 0
-InPlace P before [] after = Unit {0}
-InPlace P before (f ∷ fs) after =
-    P (record { before = before; field = f; after = fs ++ after }) × InPlace P (f ∷ before) fs after
+-- the fields behind some have the members of a group in their places
+abbrev pub InPlace : GroupTags → List Field → List Field → Type 0
+InPlace g before fields = AllByRecursion (λ p. misplaced p g ≡ None) (placed_from before fields)
 
-place_joined : (P : Placed → Type 0) (xs ys before after : List Field) → InPlace P before
-    xs (ys ++ after) → InPlace P (back xs before) ys after → InPlace P before (xs ++ ys) after
-place_joined P [] ys before after h k = k
-place_joined P (x ∷ xs) ys before after h k =
-    let Q : List Field → Type 0 = λ fs. P (record { before = before; field = x; after = fs }) in
-    (subst Q (sym (append_assoc xs ys after)) h.0, place_joined P xs ys (x ∷ before) after h.1 k)
-
-pub none_placed : {A : Type 0} (f : Placed → Option A) (before fs : List Field)
-    → InPlace (λ p. f p ≡ None) before fs [] → first_of f (placed_from before fs) ≡ None
-unfolding first_of
-none_placed f before [] h = refl
-none_placed f before (x ∷ xs) h =
-    let e : f (record { before = before; field = x; after = xs }) ≡ None = let Q : List Field
-    → Type 0 = λ fs. f (record { before = before; field = x; after = fs }) ≡ None
-    in subst Q (append-nil xs) h.0 in
-    rw e (none_placed f (x ∷ before) xs h.1)
-
--- ---- a field that a group does not have
-
-apart_from : (g : GroupTags) (p : Placed)
-    → (p.field.0 == g.count) ≡ false → is_inside g p.field.0 ≡ false → misplaced p g ≡ None
-apart_from g p count inside = rw (count, inside) refl
+-- whatever stands before them
+abbrev Anywhere : GroupTags → List Field → Type 0
+Anywhere g fields = (before : List Field) → InPlace g before fields
 
 -- ---- the fields of a group
 
-module _ (g : GroupTags) (plain : IsPlain g) where
-  -- what stands before a member
-  record Before (before : List Field) (done : ℕ) (line : List Field) : Type 0 where
+module _ (g : GroupTags) where
+  -- what stands before a member: the count, and so many lines
+  record Before (before : List Field) (done : ℕ) : Type 0 where
     opened : is_opened g before ≡ true
     begun : lines_begun g before ≡ done
-    now : line_before g before ≡ line
 
-  run_on : (f : Field) (fs : List Field) → is_inside g f.0 ≡ true → run g (f ∷ fs) ≡ f ∷ run g fs
-  run_on f fs h = take_while-cons (λ x. is_inside g x.0) f fs ∙ rw h refl
-
-  run_stops : (f : Field) (fs : List Field) → is_inside g f.0 ≡ false → run g (f ∷ fs) ≡ []
-  run_stops f fs h = take_while-cons (λ x. is_inside g x.0) f fs ∙ rw h refl
+  -- fields behind so many lines
+  abbrev Behind : ℕ → List Field → Type 0
+  Behind done fields = (before : List Field) → Before before done → InPlace g before fields
 
   one_count : (f : Field) (fs : List Field) → count_by (λ x. x.0 == g.first) (f ∷ fs)
       ≡ cond (f.0 == g.first) 1 0 + count_by (λ x. x.0 == g.first) fs
   one_count f fs = sum_by-cons (λ x. cond (x.0 == g.first) 1 0) f fs
-
-  begun_on : (f : Field) (fs : List Field) → is_inside g f.0 ≡ true
-      → lines_begun g (f ∷ fs) ≡ cond (f.0 == g.first) 1 0 + lines_begun g fs
-  begun_on f fs h = ap (count_by (λ x. x.0 == g.first)) (run_on f fs h) ∙ one_count f (run g fs)
 
   line_on : (f : Field) (fs : List Field)
       → line_before g (f ∷ fs) ≡ (if f.0 == g.first then [] else f ∷ line_before g fs)
@@ -93,77 +67,31 @@ module _ (g : GroupTags) (plain : IsPlain g) where
       by true rest = refl
       by false rest = refl
 
-  opened_on : (f : Field) (fs : List Field)
-      → is_inside g f.0 ≡ true → is_opened g fs ≡ true → is_opened g (f ∷ fs) ≡ true
-  opened_on f fs h stands = by (f.0 == g.count)
-    where
-      by : (b : Bool)
-          → (if b then true else (if is_inside g f.0 then is_opened g fs else false)) ≡ true
-      by true = refl
-      by false = rw h stands
-
   -- behind the count
-  start : (n : List ℕ) (before : List Field)
-      → (line : List Field) × Before ((g.count, n) ∷ before) 0 line
-  start n before = (
-    line_before g ((g.count, n) ∷ before),
-    record {
-      opened = rw (same_number g.count) refl;
-      begun =
-          ap (count_by (λ x. x.0 == g.first)) (run_stops (g.count, n) before plain.count_outside);
-      now = refl;
-    },
-  )
+  start : (n : List ℕ) (before : List Field) → is_inside g g.count ≡ false
+      → Before ((g.count, n) ∷ before) 0
+  start n before outside =
+      let cut : run g ((g.count, n) ∷ before) ≡ [] =
+      take_while-cons (λ x. is_inside g x.0) (g.count, n) before ∙ rw outside refl in record {
+        opened = rw (same_number g.count) refl;
+        begun = ap (count_by (λ x. x.0 == g.first)) cut;
+      }
 
-  -- behind a member that begins a line
-  first_on : (f : Field) (before : List Field) (done : ℕ) (line : List Field) → (f.0 == g.first)
-      ≡ true → is_inside g f.0 ≡ true → Before before done line → Before (f ∷ before) (1 + done) []
-  first_on f before done line first inside b = record {
-    opened = opened_on f before inside b.opened;
-    begun = begun_on f before inside ∙ rw (first, b.begun) refl;
-    now = line_on f before ∙ rw first refl;
-  }
-
-  -- behind another member
-  other_on : (f : Field) (before : List Field) (done : ℕ) (line : List Field)
-      → (f.0 == g.first) ≡ false
-      → is_inside g f.0 ≡ true → Before before done line → Before (f ∷ before) done (f ∷ line)
-  other_on f before done line other inside b = record {
-    opened = opened_on f before inside b.opened;
-    begun = begun_on f before inside ∙ rw (other, b.begun) (zero-add done);
-    now = line_on f before ∙ rw (other, b.now) refl;
-  }
-
-  abbrev pub In : Placed → Type 0
-  In p = misplaced p g ≡ None
-
-  -- a member in its place
-  member_in : (p : Placed) → (p.field.0 == g.count) ≡ false → is_inside g p.field.0 ≡ true
-      → is_opened g p.before ≡ true → is_one_of g.skipped p.field.0 ≡ false →
-      (if p.field.0 == g.first
-      then fault_if (nat_le 32 (lines_begun g p.before)) (faults.Reason g.count 5)
-      else fault_if (lines_begun g p.before == 0 || has_tag p.field.0 (line_before g p.before))
-      (faults.Reason p.field.0 15)) ≡ None
-      → misplaced p g ≡ None
-  member_in p count inside stands skipped e = rw (count, inside, skipped, stands) e
-
-  first_in : (f : Field) (before after : List Field) (done : ℕ) (line : List Field)
-      → (f.0 == g.count) ≡ false → is_one_of g.skipped f.0 ≡ false →
-      (f.0 == g.first) ≡ true → is_inside g f.0 ≡ true → done < 32
-      → Before before done line → In (record { before = before; field = f; after = after })
-  first_in f before after done line count skipped first inside few b =
-      let below : nat_le 32 done ≡ false = grind (arith, nat_tests) in
-      member_in (record { before = before; field = f; after = after })
-      count inside b.opened skipped (rw (first, b.begun, below) refl)
-
-  other_in : (f : Field) (before after : List Field) (done : ℕ) (line : List Field)
-      → (f.0 == g.count) ≡ false → is_one_of g.skipped f.0 ≡ false →
-      (f.0 == g.first) ≡ false → is_inside g f.0 ≡ true → has_tag f.0 line ≡ false → Before
-      before (1 + done) line → In (record { before = before; field = f; after = after })
-  other_in f before after done line count skipped other inside once b =
-      let some : (1 + done == 0) ≡ false = grind (arith, nat_tests) in
-      member_in (record { before = before; field = f; after = after })
-      count inside b.opened skipped (rw (other, b.begun, b.now, some, once) refl)
+  -- behind one member more
+  on : (f : Field) (before : List Field) (done now : ℕ) → is_inside g f.0 ≡ true
+      → cond (f.0 == g.first) 1 0 + done ≡ now → Before before done → Before (f ∷ before) now
+  on f before done now inside e b =
+      let run_on : run g (f ∷ before) ≡ f ∷ run g before =
+      take_while-cons (λ x. is_inside g x.0) f before ∙ rw inside refl in record {
+        opened = by (f.0 == g.count) b.opened;
+        begun = ap (count_by (λ x. x.0 == g.first)) run_on ∙ one_count f (run g before)
+            ∙ ap (λ n. cond (f.0 == g.first) 1 0 + n) b.begun ∙ e;
+      }
+    where
+      by : (b : Bool) → is_opened g before ≡ true
+          → (if b then true else (if is_inside g f.0 then is_opened g before else false)) ≡ true
+      by true stands = refl
+      by false stands = rw inside stands
 
   -- what is asked of the tag of a member
   record IsMember (tag : ℕ) : Type 0 where
@@ -171,142 +99,90 @@ module _ (g : GroupTags) (plain : IsPlain g) where
     inside : is_inside g tag ≡ true
     skipped : is_one_of g.skipped tag ≡ false
 
-  -- a list of fields in their places, and what stands before the next
-  abbrev Through : List Field → List Field → List Field → ℕ → Type 0
-  Through before fields after done =
-      (line : List Field) × InPlace In before fields after × Before (back fields before) done line
+  -- a member in its place
+  member_in : (f : Field) (before after : List Field) → IsMember f.0 → is_opened g before ≡ true
+      → (if f.0 == g.first
+      then fault_if (nat_le 32 (lines_begun g before)) (faults.Reason g.count 5)
+      else fault_if (lines_begun g before == 0 || has_tag f.0 (line_before g before))
+      (faults.Reason f.0 15)) ≡ None
+      → misplaced (record { before = before; field = f; after = after }) g ≡ None
+  member_in f before after m stands e = rw (m.count, m.inside, m.skipped, stands) e
 
-  module _ {Kind : Type 0} (judge : Judge Kind) where
-    -- the members of a line behind its first
-    others : (whole : List Field) (rows : List (Row Kind)) (cells : List Cell)
-        → AreSaid judge whole rows cells → AllByRecursion IsMember (tags_of rows) →
-        AllByRecursion (λ t. (t == g.first) ≡ false) (tags_of rows) → are_apart (tags_of rows)
-        ≡ true → (before after : List Field) (done : ℕ) (line : List Field) →
-        Free line (tags_of rows)
-        → Before before (1 + done) line → Through before (line_fields cells) after (1 + done)
-    others whole [] [] said members first apart before after done line free b = (line, tt, b)
-    others whole [] (cell ∷ cells) said members first apart before after done line free b =
-        absurd said
-    others whole (row ∷ rows) [] said members first apart before after done line free b =
-        absurd said
-    others
-        whole (row ∷ rows) (cell ∷ cells) said members first apart before after done line free b =
-        let p = both (not (is_one_of (tags_of rows) row.tag)) (are_apart (tags_of rows)) apart in
-        let P : Place → Type 0 = λ place.
-        Through before (cell_fields (place, cell.1) ++ line_fields cells) after (1 + done) in
-        subst P (sym said.0) (by cell.1
-        (others whole rows cells said.2 members.1 first.1 p.1 before after done line free.1 b)
-        (λ f fs c l h. others whole rows cells said.2 members.1 first.1 p.1 c after done l h)
-        p.0)
-      where
-        by : (s : Said) → Through before (line_fields cells) after (1 + done) →
-            ((f : Field) (fs : List Field) (c l : List Field) → Free l (tags_of rows)
-            → Before c (1 + done) l → Through c (line_fields cells) after (1 + done)) →
-            not (is_one_of (tags_of rows) row.tag) ≡ true → Through
-            before (cell_fields (Tag row.tag, s) ++ line_fields cells) after (1 + done)
-        by None rest more p = rest
-        by (Some text) rest more p =
-            let f : Field = (row.tag, text) in
-            let mine = members.0 in
-            let free_now = free_after (row.tag ∷ []) (tags_of rows)
-            (f ∷ []) line (ap (λ (x : Bool). x || false) (same_number row.tag), tt)
-            (others_apart (tags_of rows) row.tag (not_true _ p)) free.1 in
-            let on = other_on f before (1 + done) line first.0 mine.inside b in
-            let rest = more f [] (f ∷ before) (f ∷ line) free_now on in (
-              rest.0,
-              (
-                other_in f before (line_fields cells ++ after)
-                    done line mine.count mine.skipped first.0 mine.inside free.0 b,
-                rest.1,
-              ),
-              rest.2,
-            )
+  -- the fields of a line behind its first
+  others : (fs : List Field) → AllByRecursion (λ f. IsMember f.0) fs
+      → AllByRecursion (λ f. (f.0 == g.first) ≡ false) fs → Once fs → (done : ℕ)
+      → (rest : List Field) → Behind (1 + done) rest → (before : List Field)
+      → Before before (1 + done)
+      → AllByRecursion (λ f. has_tag f.0 (line_before g before) ≡ false) fs
+      → InPlace g before (fs ++ rest)
+  others [] members none once done rest k before at free = k before at
+  others (f ∷ fs) members none once done rest k before at free =
+      let mine = members.0 in
+      let some : (1 + done == 0) ≡ false = grind (arith, nat_tests) in
+      let now : line_before g (f ∷ before) ≡ f ∷ line_before g before =
+      line_on f before ∙ rw none.0 refl in
+      let P : List Field → Type 0 = λ line. AllByRecursion (λ h. has_tag h.0 line ≡ false) fs in (
+        member_in f before (fs ++ rest) mine at.opened (rw (none.0, at.begun, some, free.0) refl),
+        others fs members.1 none.1 once.1 done rest k (f ∷ before)
+            (on f before (1 + done) (1 + done) mine.inside (rw none.0 (zero-add (1 + done))) at)
+            (subst P (sym now) (each_two _ _ _ (λ h other stood. neither (f.0 == h.0)
+            (has_tag h.0 (line_before g before)) (apart_same h.0 f.0 other) stood) fs once.0
+            free.1)),
+      )
 
-    module _ (row : Row Kind) (rows : List (Row Kind)) (needed : row.need ≡ Required)
-        (first : (row.tag == g.first) ≡ true)
-        (members : AllByRecursion IsMember (tags_of (row ∷ rows)))
-        (later : AllByRecursion (λ t. (t == g.first) ≡ false) (tags_of rows))
-        (apart : are_apart (tags_of rows) ≡ true) where
-      -- a line
-      line_in : (line : List Cell) → IsLine judge (row ∷ rows) line
-          → (before after : List Field) (done : ℕ) (last : List Field) → done < 32
-          → Before before done last → Through before (line_fields line) after (1 + done)
-      line_in [] said before after done last few b = absurd said
-      line_in (cell ∷ cells) said before after done last few b =
-          let P : Place → Type 0 = λ place.
-          Through before (cell_fields (place, cell.1) ++ line_fields cells) after (1 + done) in
-          let Q : Need → Type 0 = λ n. is_needed n (line_fields (cell ∷ cells)) ≡ true in
-          subst P (sym said.0) (by cell.1 (said.1.needed (subst Q (sym needed) refl))
-          (λ c h. others (line_fields (cell ∷ cells)) rows cells said.2 members.1 later apart c
-          after done [] (none_free (tags_of rows)) h))
-        where
-          by : (s : Said) → IsSome s → ((c : List Field)
-              → Before c (1 + done) [] → Through c (line_fields cells) after (1 + done)) →
-              Through before (cell_fields (Tag row.tag, s) ++ line_fields cells) after (1 + done)
-          by None there more = absurd cc
-          by (Some text) there more =
-              let f : Field = (row.tag, text) in
-              let mine = members.0 in
-              let rest = more (f ∷ before) (first_on f before done last first mine.inside b) in (
-                rest.0,
-                (
-                  first_in f before (line_fields cells ++ after)
-                      done last mine.count mine.skipped first mine.inside few b,
-                  rest.1,
-                ),
-                rest.2,
-              )
+  -- a line
+  line_in : (fields : List Field) → Begins g.first fields
+      → AllByRecursion (λ f. IsMember f.0) fields → (done : ℕ) → done < 32
+      → (rest : List Field) → Behind (1 + done) rest → Behind done (fields ++ rest)
+  line_in fields line members done few rest k before at =
+      let f : Field = (g.first, line.text) in
+      let first = same_number g.first in
+      let below : nat_le 32 done ≡ false = grind (arith, nat_tests) in
+      let now : line_before g (f ∷ before) ≡ [] = line_on f before ∙ rw first refl in
+      let P : List Field → Type 0 =
+      λ fs. AllByRecursion (λ f. IsMember f.0) fs → InPlace g before (fs ++ rest) in
+      let Q : List Field → Type 0 =
+      λ before. AllByRecursion (λ h. has_tag h.0 before ≡ false) line.others in
+      subst P (sym line.is) (λ all. (
+        member_in f before (line.others ++ rest) all.0 at.opened (rw (first, at.begun, below) refl),
+        others line.others all.1 line.none line.once done rest k (f ∷ before)
+            (on f before done (1 + done) all.0.inside (rw first refl) at)
+            (subst Q (sym now) (each_at _ line.others (λ i h at. refl))),
+      )) members
 
-      lines_in_place : (lines : List (List Cell)) → AllByRecursion (IsLine judge (row ∷ rows)) lines
-          → (before after : List Field) (done : ℕ) (last : List Field) → length lines + done ≤ 32
-          → Before before done last → InPlace In before (flat_map line_fields lines) after
-      lines_in_place [] said before after done last few b = tt
-      lines_in_place (line ∷ lines) said before after done last few b =
-          let one = line_in line said.0 before (flat_map line_fields lines ++ after) done last
-          (omega (arith, few)) b in
-          place_joined In (line_fields line) (flat_map line_fields lines) before after one.1
-          (lines_in_place lines said.1 (back (line_fields line) before) after (1 + done) one.0
-          (omega (arith, few)) one.2)
+  lines_in_place : (lines : List (List Cell))
+      → AllByRecursion (λ line. Begins g.first (line_fields line)) lines
+      → AllByRecursion (λ line. AllByRecursion (λ f. IsMember f.0) (line_fields line)) lines
+      → (rest : List Field) → Anywhere g rest → (done : ℕ) → length lines + done ≤ 32
+      → Behind done (flat_map line_fields lines ++ rest)
+  lines_in_place [] begin members rest k done few before at = k before
+  lines_in_place (line ∷ lines) begin members rest k done few before at =
+      subst (InPlace g before)
+      (sym (append_assoc (line_fields line) (flat_map line_fields lines) rest))
+      (line_in (line_fields line) begin.0 members.0 done (omega (arith, few))
+      (flat_map line_fields lines ++ rest)
+      (lines_in_place lines begin.1 members.1 rest k (1 + done) (omega (arith, few))) before at)
 
-    -- ---- the count
+  -- ---- the count
 
-    none_first : (fs : List Field)
-        → AllByRecursion (λ f. (f.0 == g.first) ≡ false) fs → count_by (λ x. x.0 == g.first) fs ≡ 0
-    none_first [] none = refl
-    none_first (f ∷ fs) none = one_count f fs ∙ rw (none.0, none_first fs none.1) refl
+  none_first : (fs : List Field)
+      → AllByRecursion (λ f. (f.0 == g.first) ≡ false) fs → count_by (λ x. x.0 == g.first) fs ≡ 0
+  none_first [] none = refl
+  none_first (f ∷ fs) none = one_count f fs ∙ rw (none.0, none_first fs none.1) refl
 
-    count_joined : (xs ys : List Field) → count_by (λ x. x.0 == g.first) (xs ++ ys)
-        ≡ count_by (λ x. x.0 == g.first) xs + count_by (λ x. x.0 == g.first) ys
-    count_joined [] ys = sym (zero-add (count_by (λ x. x.0 == g.first) ys))
-    count_joined (x ∷ xs) ys =
-        let a = one_count x (xs ++ ys) in let b = one_count x xs in let c = count_joined xs ys in
-        omega (arith, a, b, c)
-
-    line_count : (fields : List Field)
-        → Begins g.first fields → count_by (λ x. x.0 == g.first) fields ≡ 1
-    line_count fields b =
-        ap (count_by (λ x. x.0 == g.first)) b.is ∙ one_count (g.first, b.text) b.others
-        ∙ rw (same_number g.first, none_first b.others b.none) refl
-
-    lines_count : (lines : List (List Cell))
-        → AllByRecursion (λ line. Begins g.first (line_fields line)) lines
-        → count_by (λ x. x.0 == g.first) (flat_map line_fields lines) ≡ length lines
-    lines_count [] begin = refl
-    lines_count (line ∷ lines) begin =
-        let a = count_joined (line_fields line) (flat_map line_fields lines) in
-        let b = line_count (line_fields line) begin.0 in let c = lines_count lines begin.1 in
-        omega (arith, a, b, c)
-
-  -- a count that says so many lines
-  count_in : (n : ℕ) (before fields after : List Field) → number_in (decimal n) ≡ Some n
-      → run g (fields ++ after) ≡ fields → count_by (λ x. x.0 == g.first) fields ≡ n →
-      In (record { before = before; field = (g.count, decimal n); after = fields ++ after })
-  count_in n before fields after said cut counted =
-      let begun : lines_begun g (fields ++ after) ≡ n =
-      ap (count_by (λ x. x.0 == g.first)) cut ∙ counted in
-      rw (same_number g.count, said, begun, same_number n) refl
-
--- ---- a group in its place
+  lines_count : (lines : List (List Cell))
+      → AllByRecursion (λ line. Begins g.first (line_fields line)) lines
+      → count_by (λ x. x.0 == g.first) (flat_map line_fields lines) ≡ length lines
+  lines_count [] begin = refl
+  lines_count (line ∷ lines) begin =
+      let b = begin.0 in
+      let one : count_by (λ x. x.0 == g.first) (line_fields line) ≡ 1 =
+      ap (count_by (λ x. x.0 == g.first)) b.is ∙ one_count (g.first, b.text) b.others
+      ∙ rw (same_number g.first, none_first b.others b.none) refl in
+      let all = sum_by-append (λ x. cond (x.0 == g.first) 1 0) (line_fields line)
+      (flat_map line_fields lines) in
+      let rest = lines_count lines begin.1 in
+      omega (arith, one, all, rest)
 
 decimal_said : (n : ℕ) → n ≤ 32 → number_in (decimal n) ≡ Some n
 unfolding number_in
@@ -320,166 +196,126 @@ decimal_said n few =
     let small : nat_le n 1_000_000_000 ≡ true = grind (arith, nat_tests) in
     rw (range, digits, value, small) refl
 
-module _ {Kind : Type 0} (judge : Judge Kind)
-    (count : ℕ) (row : Row Kind) (rows : List (Row Kind)) (skipped : List ℕ) where
-  abbrev group : RepeatingGroup Kind
-  group = record { count = count; rows = row ∷ rows; skipped = skipped }
+module _ {Kind : Type 0} (judge : Judge Kind) (table : Table Kind) (count : ℕ) (skipped : List ℕ)
+  where
+    abbrev with_rows : List (Row Kind) → RepeatingGroup Kind
+    with_rows rows = record { count = count; rows = rows; skipped = skipped }
 
-  abbrev g : GroupTags
-  g = tags_in group
-
-  members : (plain : IsPlain g) (us : List ℕ)
-      → AllByRecursion (λ u. is_one_of (tags_of (row ∷ rows)) u ≡ true) us
-      → AllByRecursion (λ u. (u == count) ≡ false) us →
-      AllByRecursion (λ u. is_one_of skipped u ≡ false) us → AllByRecursion (IsMember g plain) us
-  members plain [] mine counted kept = tt
-  members plain (u ∷ us) mine counted kept = (
-    record {
-      count = counted.0;
-      inside = ap (λ (b : Bool). b || is_one_of skipped u) mine.0;
-      skipped = kept.0;
-    },
-    members plain us mine.1 counted.1 kept.1,
-  )
-
-  pub group_in_place : (plain : IsPlain g) (lines : List (List Cell))
-      → row.need ≡ Required → are_apart (count ∷ tags_of (row ∷ rows)) ≡ true →
-      AllByRecursion (λ t. is_one_of skipped t ≡ false) (tags_of (row ∷ rows))
-      → length lines ≤ 32 → AllByRecursion (IsLine judge (row ∷ rows)) lines →
-      (before after : List Field) → Outside g after
-      → InPlace (λ p. misplaced p g ≡ None) before (group_fields count lines) after
-  group_in_place plain [] needed apart kept few said before after out = tt
-  group_in_place plain (line ∷ lines) needed apart kept few said before after out =
-      let all = line ∷ lines in
-      let fields = flat_map line_fields all in
-      let tags = tags_of (row ∷ rows) in
-      let p = both (not (is_one_of tags count)) (are_apart tags) apart in
-      let q = both (not (is_one_of (tags_of rows) row.tag)) (are_apart (tags_of rows)) p.1 in
-      let own = members plain tags (each_of tags) (none_is count tags (not_true _ p.0)) kept in
-      let cut = run_is
-      g fields after (inside_of group fields (lines_of_tags judge (row ∷ rows) all said)) out in
-      let counted =
-      lines_count g plain judge all (group_begins judge (row ∷ rows) all needed p.1 said) in
-      let first = start g plain (decimal (length all)) before in (
-        count_in
-            g plain (length all) before fields after (decimal_said (length all) few) cut counted,
-        lines_in_place g plain judge row rows needed (same_number row.tag) own
-            (none_is row.tag (tags_of rows) (not_true _ q.0)) q.1 all said
-            ((count, decimal (length all)) ∷ before) after 0 first.0 (omega (arith, few)) first.1,
-      )
+    -- A GROUP IN ITS PLACE, where no field behind it is inside it
+    group_in : (rows : List (Row Kind)) (lines : List (List Cell)) (rest : List Field)
+        → GroupFits judge table (with_rows rows) → IsGroup judge (with_rows rows) lines
+        → Outside (tags_in (with_rows rows)) rest → Anywhere (tags_in (with_rows rows)) rest
+        → Anywhere (tags_in (with_rows rows)) (group_fields count lines ++ rest)
+    group_in rows [] rest fit said out k before = k before
+    group_in [] (line ∷ lines) rest fit said out k before = absurd fit.first
+    group_in (row ∷ rows) (line ∷ lines) rest fit said out k before =
+        let group = with_rows (row ∷ rows) in
+        let g = tags_in group in
+        let all = line ∷ lines in
+        let tags = tags_of (row ∷ rows) in
+        let p = apart_first count tags fit.apart in
+        let members = each_two _ _ (IsMember g) (λ t c k. record {
+          count = c;
+          inside = ap (λ (b : Bool). b || is_one_of skipped t) k.0;
+          skipped = k.1;
+        }) tags (none_is count tags p.0)
+        (each_two _ _ (λ t. (is_one_of tags t ≡ true) × (is_one_of skipped t ≡ false))
+        (λ t a b. (a, b)) tags (each_of tags) fit.kept) in
+        let begin = group_begins judge (row ∷ rows) all fit.first p.1 said.said in
+        let begun : lines_begun g (flat_map line_fields all ++ rest) ≡ length all =
+        ap (count_by (λ x. x.0 == g.first)) (lines_run judge group all rest said.said out)
+        ∙ lines_count g all begin in
+        let few = said.few in
+        let told = decimal_said (length all) few in (
+          rw (same_number count, told, begun, same_number (length all)) refl,
+          lines_in_place g all begin (each_part (λ f. IsMember g f.0) line_fields all
+              (lines_each judge (λ f. IsMember g f.0) (row ∷ rows) all
+              (of_rows judge (IsMember g) (row ∷ rows) members) said.said)) rest k 0
+              (omega (arith, few)) ((count, decimal (length all)) ∷ before)
+              (start g (decimal (length all)) before fit.plain.count_outside),
+        )
 
 -- ---- the items beside a group
 
-module _ {Kind : Type 0} (judge : Judge Kind) (fields : List Field) (m : Message) where
-  -- what is asked of each group by itself
-  abbrev pub IsWhole : RepeatingGroup Kind → Type 0
-  IsWhole group =
-      HasFirst judge group.rows
-      × IsPlain (tags_in group) × (are_apart (group.count ∷ tags_of group.rows) ≡ true)
-      × AllByRecursion (λ t. is_one_of group.skipped t ≡ false) (tags_of group.rows)
+abbrev group_parts : GroupTags → GroupTags → List Bool
+group_parts g h =
+    (g.count == h.count) ∷ (g.first == h.first)
+    ∷ bytes_eq g.members h.members ∷ bytes_eq g.skipped h.skipped ∷ []
 
-  abbrev with_rows : RepeatingGroup Kind → List (Row Kind) → RepeatingGroup Kind
-  with_rows group rows = record { count = group.count; rows = rows; skipped = group.skipped }
+abbrev is_group : GroupTags → GroupTags → Bool
+is_group g h = list_all (λ b. b) (group_parts g h)
 
-  own_in_place : (group : RepeatingGroup Kind) (rows : List (Row Kind)) (lines : List (List Cell))
-      → IsWhole (with_rows group rows) → length lines ≤ 32
-      → AllByRecursion (IsLine judge rows) lines
-      → (before after : List Field) → Outside (tags_in (with_rows group rows)) after → InPlace
-      (λ p. misplaced p (tags_in (with_rows group rows)) ≡ None) before
-      (group_fields group.count lines) after
-  own_in_place _ [] lines whole few said before after out = absurd whole.0
-  own_in_place group (row ∷ rows) lines whole few said before after out =
-      group_in_place judge group.count row rows group.skipped whole.1 lines whole.0 whole.2 whole.3
-      few said before after out
+same_group : (g h : GroupTags) → is_group g h ≡ true → g ≡ h
+same_group g h e =
+    let p = all_true (λ b. b) (group_parts g h) e in
+    let count = eqb-true g.count h.count p.0 in
+    let first = eqb-true g.first h.first p.1.0 in
+    let members = (bytes_eq-Decides g.members h.members).0 p.1.1.0 in
+    let skipped = (bytes_eq-Decides g.skipped h.skipped).0 p.1.1.1.0 in
+    λ i. record { count = count i; first = first i; members = members i; skipped = skipped i }
 
-  module _ (g : GroupTags) where
-    abbrev pub IsOutside : List ℕ → Type 0
-    IsOutside tags = AllByRecursion (λ t. is_of_group t g ≡ false) tags
+-- an item beside a group: it has none of its tags, or is the group
+abbrev is_apart : {Kind : Type 0} → GroupTags → Item Kind → Bool
+is_apart g item = list_all (λ t. not (is_of_group t g)) (item_tags item)
 
-    -- an item beside the group: it is the group, or has none of its tags
-    abbrev pub ItemBeside : Item Kind → Type 0
-    ItemBeside (Lines group) = (g ≡ tags_in group) ⊎ IsOutside (item_tags (Lines group))
-    ItemBeside item = IsOutside (item_tags item)
+abbrev pub is_beside : {Kind : Type 0} → GroupTags → Item Kind → Bool
+is_beside g (Lines group) = is_group g (tags_in group) || is_apart g (Lines group)
+is_beside g item = is_apart g item
 
-    field_apart : (f : Field) (before after : List Field) → is_of_group f.0 g ≡ false
-        → misplaced (record { before = before; field = f; after = after }) g ≡ None
-    field_apart f before after out =
-        let p = either (g.count == f.0) (is_inside g f.0) out in
-        let other : (f.0 == g.count) ≡ false = let e = p.0 in grind (arith, nat_tests) in
-        apart_from g (record { before = before; field = f; after = after }) other p.1
+module _ {Kind : Type 0} (judge : Judge Kind) (table : Table Kind) (fields : List Field)
+    (m : Message) (g : GroupTags) where
+  outside_place : (fs rest : List Field)
+      → AllByRecursion (λ f. is_of_group f.0 g ≡ false) fs → Anywhere g rest
+      → Anywhere g (fs ++ rest)
+  outside_place [] rest out k before = k before
+  outside_place (f ∷ fs) rest out k before =
+      let p = either (g.count == f.0) (is_inside g f.0) out.0 in
+      let other : (f.0 == g.count) ≡ false = let e = p.0 in grind (arith, nat_tests) in
+      (rw (other, p.1) refl, outside_place fs rest out.1 k (f ∷ before))
 
-    outside_place : (tags : List ℕ) (fs before after : List Field)
-        → AreOf tags fs → IsOutside tags → InPlace (λ p. misplaced p g ≡ None) before fs after
-    outside_place tags [] before after of out = tt
-    outside_place tags (f ∷ fs) before after of out = (
-      field_apart f before (fs ++ after) (one_of (λ t. is_of_group t g ≡ false) tags out f.0 of.0),
-      outside_place tags fs (f ∷ before) after of.1 out,
-    )
+  item_apart : (item : Item Kind) (rest : List Field) → IsItem judge fields m item
+      → is_apart g item ≡ true → Anywhere g rest → Anywhere g (item_fields m item ++ rest)
+  item_apart item rest said apart = outside_place (item_fields m item) rest
+      (item_tagged judge (λ t. is_of_group t g ≡ false) fields m item
+      (all_false (λ t. is_of_group t g) (item_tags item) apart) said)
 
-    pub items_in_place : (items : List (Item Kind)) → AllByRecursion (IsItem judge fields m) items
-        → AllByRecursion ItemBeside items → AllByRecursion IsWhole (flat_map groups_of items) →
-        GroupsApart judge fields m items → (before : List Field)
-        → InPlace (λ p. misplaced p g ≡ None) before (flat_map (item_fields m) items) []
-    items_in_place [] said beside whole groups before = tt
-    items_in_place (One row ∷ items) said beside whole groups before =
-        let mine = item_fields m (One row) in
-        place_joined (λ p. misplaced p g ≡ None) mine (flat_map (item_fields m) items) before []
-        (outside_place (row.tag ∷ []) mine before (flat_map (item_fields m) items ++ [])
-        (item_of judge fields m (One row) said.0) beside.0)
-        (items_in_place items said.1 beside.1 whole groups (back mine before))
-    items_in_place (Party role ∷ items) said beside whole groups before =
-        items_in_place items said.1 beside.1 whole groups before
-    items_in_place (Lines group ∷ items) said beside whole groups before =
-        let mine = item_fields m (Lines group) in
-        let later = flat_map (item_fields m) items in
-        place_joined (λ p. misplaced p g ≡ None) mine later before [] (by beside.0)
-        (items_in_place items said.1 beside.1 whole.1 groups.3 (back mine before))
-      where
-        by : ((g ≡ tags_in group) ⊎ IsOutside (item_tags (Lines group))) →
-            InPlace (λ p. misplaced p g ≡ None)
-            before (item_fields m (Lines group)) (flat_map (item_fields m) items ++ [])
-        by (inl is) =
-            let later = flat_map (item_fields m) items in
-            let out : Outside (tags_in group) later = outside_of judge fields m (tags_in group)
-            (flat_map item_tags items) later (items_of judge fields m items said.1) groups.2 in
-            let Q : List Field → Type 0 = λ fs. Outside (tags_in group) fs in
-            let P : GroupTags → Type 0 = λ h. InPlace
-            (λ p. misplaced p h ≡ None) before (item_fields m (Lines group)) (later ++ []) in
-            subst P (sym is) (own_in_place group group.rows (lines_of group.count m.groups) whole.0
-            said.0.few said.0.said before (later ++ []) (subst Q (sym (append-nil later)) out))
-        by (inr out) =
-            outside_place (item_tags (Lines group)) (item_fields m (Lines group)) before (flat_map
-            (item_fields m) items ++ []) (item_of judge fields m (Lines group) said.0) out
+  items_in_place : (items : List (Item Kind)) → AllByRecursion (IsItem judge fields m) items
+      → AllByRecursion (IsFit judge table) items → are_after items ≡ true
+      → AllByRecursion (λ item. is_beside g item ≡ true) items
+      → Anywhere g (flat_map (item_fields m) items)
+  items_in_place [] said fit after beside = λ before. tt
+  items_in_place (Lines group ∷ items) said fit after beside =
+      let own = tags_in group in
+      let tags = flat_map item_tags items in
+      let later = flat_map (item_fields m) items in
+      let p = both (is_before (Lines group) tags) (are_after items) after in
+      let k = items_in_place items said.1 fit.1 p.1 beside.1 in
+      elim (either_true (is_group g own) (is_apart g (Lines group)) beside.0) as (λ _.
+      Anywhere g (item_fields m (Lines group) ++ later)) [
+        | inl is ↦
+            let out = items_tagged judge (λ t. is_inside own t ≡ false) fields m items
+            (all_false (is_inside own) tags p.0) said.1 in
+            let P : GroupTags → Type 0 =
+            λ h. Anywhere h later → Anywhere h (item_fields m (Lines group) ++ later) in
+            subst P (sym (same_group g own is)) (group_in judge table group.count group.skipped
+            group.rows (lines_of group.count m.groups) later fit.0.1.0 said.0 out) k
+        | inr apart ↦ item_apart (Lines group) later said.0 apart k
+      ]
+  items_in_place (item ∷ items) said fit after beside =
+      let p = both (is_before item (flat_map item_tags items)) (are_after items) after in
+      item_apart item (flat_map (item_fields m) items) said.0 beside.0
+      (items_in_place items said.1 fit.1 p.1 beside.1)
 
-  -- ---- all groups
-
-  or_in : (g : GroupTags) (gs : List GroupTags) (before fs after : List Field)
-      → InPlace (λ p. misplaced p g ≡ None) before fs after
-      → InPlace (λ p. in_groups gs p ≡ None) before fs after →
-      InPlace (λ p. in_groups (g ∷ gs) p ≡ None) before fs after
-  unfolding first_of
-  or_in g gs before [] after h k = tt
-  or_in g gs before (f ∷ fs) after h k = (rw h.0 k.0, or_in g gs (f ∷ before) fs after h.1 k.1)
-
-  none_in : (before fs after : List Field) → InPlace (λ p. in_groups [] p ≡ None) before fs after
-  unfolding first_of
-  none_in before [] after = tt
-  none_in before (f ∷ fs) after = (refl, none_in (f ∷ before) fs after)
-
-  groups_in_place : (gs : List GroupTags) (items : List (Item Kind)) → AllByRecursion
-      (IsItem judge fields m) items → AllByRecursion (λ g. AllByRecursion (ItemBeside g) items) gs →
-      AllByRecursion IsWhole (flat_map groups_of items) → GroupsApart judge fields m items
-      → InPlace (λ p. in_groups gs p ≡ None) [] (flat_map (item_fields m) items) []
-  groups_in_place [] items said beside whole groups = none_in [] (flat_map (item_fields m) items) []
-  groups_in_place (g ∷ gs) items said beside whole groups =
-      or_in g gs [] (flat_map (item_fields m) items) [] (items_in_place g
-      items said beside.0 whole groups []) (groups_in_place gs items said beside.1 whole groups)
-
-  -- WHAT IS WRITTEN HAS EACH MEMBER IN ITS PLACE.
-  pub none_misplaced : (gs : List GroupTags) (items : List (Item Kind)) → AllByRecursion
-      (IsItem judge fields m) items → AllByRecursion (λ g. AllByRecursion (ItemBeside g) items) gs →
-      AllByRecursion IsWhole (flat_map groups_of items) → GroupsApart judge fields m items
-      → first_of (in_groups gs) (placed_from [] (flat_map (item_fields m) items)) ≡ None
-  none_misplaced gs items said beside whole groups =
-      none_placed (in_groups gs)
-      [] (flat_map (item_fields m) items) (groups_in_place gs items said beside whole groups)
+-- WHAT IS WRITTEN HAS EACH MEMBER IN ITS PLACE.
+pub none_misplaced : {Kind : Type 0} (judge : Judge Kind) (table : Table Kind)
+    (fields : List Field) (m : Message) (gs : List GroupTags) (items : List (Item Kind))
+    → AllByRecursion (IsItem judge fields m) items → AllByRecursion (IsFit judge table) items
+    → are_after items ≡ true → AllByRecursion (λ g. list_all (is_beside g) items ≡ true) gs
+    → first_of (in_groups gs) (placed_from [] (flat_map (item_fields m) items)) ≡ None
+none_misplaced judge table fields m gs items said fit after beside =
+    let placed = placed_from [] (flat_map (item_fields m) items) in
+    let each = each_by _ (λ g. AllByRecursion (λ p. misplaced p g ≡ None) placed)
+    (λ g h. items_in_place judge table fields m g items said fit after
+    (all_true (is_beside g) items h) []) gs beside in
+    each_none (in_groups gs) placed (each_by _ _ (λ p h. each_none (misplaced p) gs h) placed
+    (each_swapped (λ p g. misplaced p g ≡ None) placed gs each))

@@ -18,4 +18,3 @@ pub mod ShortDays
 pub mod SpelledAgain
 pub mod Stages
 pub mod TableFits
-pub mod Values

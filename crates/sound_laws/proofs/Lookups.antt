@@ -2,12 +2,14 @@
 use Rattle.std.proofs.Common.{◌≡◌, ℕ, List, [], ◌∷◌, map, Some, Bool, true, false, refl, ap}
 use Rattle.std.specs.Prelude.{not, ◌&&◌, ◌==◌}
 use Rattle.std.specs.List.{AllByRecursion, flat_map, list_any}
+use Rattle.std.proofs.lemmas.Bool.{eqb-true}
 use Rattle.field_groups.specs.Field.{Field}
 use Rattle.message_tables.specs.Tables.{Place, Tag, Role, Cell, Row, Judge, Item, One, Party, Lines}
-use Rattle.message_tables.specs.Tables.{is_place, said_at, lines_of, is_one_of, tags_of, row_at}
-use Rattle.message_tables.specs.Tables.{cells_of, groups_of, group_says}
+use Rattle.message_tables.specs.Tables.{is_place, said_at, lines_of, tags_of, row_at, cells_of}
+use Rattle.message_tables.specs.Tables.{groups_of, group_says}
 use Rattle.sound_laws.specs.Sound.{places_of}
-use Rattle.sound_laws.proofs.Each.{apart_same, are_apart, both, either, not_true, same_number}
+use Rattle.sound_laws.proofs.Each.{apart_first, apart_same, are_apart, both, each_map, each_two}
+use Rattle.sound_laws.proofs.Each.{none_is, none_pass, not_true, same_number}
 
 -- places that stand once each
 abbrev pub places_apart : List Place → Bool
@@ -18,58 +20,56 @@ same_place : (p : Place) → is_place p p ≡ true
 same_place (Tag tag) = same_number tag
 same_place (Role role) = same_number role
 
-module _ (c : Cell) (cs : List Cell) where
-  other_cells : (ds : List Cell) → list_any (is_place c.0) (map (λ d. d.0) ds) ≡ false
-      → AllByRecursion (λ d. said_at cs d.0 ≡ d.1) ds →
-      AllByRecursion (λ d. said_at (c ∷ cs) d.0 ≡ d.1) ds
-  other_cells [] apart h = tt
-  other_cells (d ∷ ds) apart h =
-      let parts = either (is_place c.0 d.0) (list_any (is_place c.0) (map (λ d. d.0) ds)) apart in
-      (rw parts.0 h.0, other_cells ds parts.1 h.1)
+pub place_is : (a b : Place) → is_place a b ≡ true → a ≡ b
+place_is (Tag a) (Tag b) h = ap (λ (tag : ℕ). Tag tag) (eqb-true a b h)
+place_is (Role a) (Role b) h = ap (λ (role : ℕ). Role role) (eqb-true a b h)
+place_is other more h = absurd cc
+
+pub other_place : (a b : Place) → is_place a b ≡ false → is_place b a ≡ false
+other_place (Tag a) (Tag b) h = apart_same a b h
+other_place (Role a) (Role b) h = apart_same a b h
+other_place a b h = refl
 
 -- each cell is found at its place
 pub cells_said : (cs : List Cell)
     → places_apart (map (λ c. c.0) cs) ≡ true → AllByRecursion (λ c. said_at cs c.0 ≡ c.1) cs
 cells_said [] apart = tt
 cells_said (c ∷ cs) apart =
-    let parts = both (not (list_any (is_place c.0) (map (λ d. d.0) cs)))
-    (places_apart (map (λ d. d.0) cs)) apart in
-    (rw (same_place c.0) refl, other_cells c cs cs (not_true _ parts.0) (cells_said cs parts.1))
-
-module _ {L : Type 0} (g : ℕ × List L) (gs : List (ℕ × List L)) where
-  other_groups : (hs : List (ℕ × List L))
-      → is_one_of (map (λ h. h.0) hs) g.0 ≡ false → AllByRecursion (λ h. lines_of h.0 gs ≡ h.1) hs →
-      AllByRecursion (λ h. lines_of h.0 (g ∷ gs) ≡ h.1) hs
-  other_groups [] apart h = tt
-  other_groups (k ∷ ks) apart h =
-      let parts = either (k.0 == g.0) (is_one_of (map (λ h. h.0) ks) g.0) apart in
-      (rw (apart_same k.0 g.0 parts.0) h.0, other_groups ks parts.1 h.1)
+    let places = map (λ d. d.0) cs in
+    let p = both (not (list_any (is_place c.0) places)) (places_apart places) apart in (
+      rw (same_place c.0) refl,
+      each_two (λ d. is_place c.0 d.0 ≡ false) _ (λ d. said_at (c ∷ cs) d.0 ≡ d.1)
+          (λ d far at. rw far at) cs
+          (each_map (λ q. is_place c.0 q ≡ false) (λ d. d.0) cs
+          (none_pass (is_place c.0) places (not_true _ p.0))) (cells_said cs p.1),
+    )
 
 -- the lines of each group are found by its count
 pub lines_said : {L : Type 0} (gs : List (ℕ × List L))
     → are_apart (map (λ g. g.0) gs) ≡ true → AllByRecursion (λ g. lines_of g.0 gs ≡ g.1) gs
 lines_said [] apart = tt
-lines_said (g ∷ gs) apart =
-    let parts =
-    both (not (is_one_of (map (λ h. h.0) gs) g.0)) (are_apart (map (λ h. h.0) gs)) apart in
-    (rw (same_number g.0) refl, other_groups g gs gs (not_true _ parts.0) (lines_said gs parts.1))
-
-module _ {Kind : Type 0} (r : Row Kind) (rs : List (Row Kind)) where
-  other_rows : (qs : List (Row Kind))
-      → is_one_of (tags_of qs) r.tag ≡ false → AllByRecursion (λ q. row_at q.tag rs ≡ Some q) qs →
-      AllByRecursion (λ q. row_at q.tag (r ∷ rs) ≡ Some q) qs
-  other_rows [] apart h = tt
-  other_rows (q ∷ qs) apart h =
-      let parts = either (q.tag == r.tag) (is_one_of (tags_of qs) r.tag) apart in
-      (rw (apart_same q.tag r.tag parts.0) h.0, other_rows qs parts.1 h.1)
+lines_said {L = L} (g ∷ gs) apart =
+    let counts = map (λ h. h.0) gs in
+    let p = apart_first g.0 counts apart in (
+      rw (same_number g.0) refl,
+      each_two {A = ℕ × List L} (λ h. (h.0 == g.0) ≡ false) _ (λ h. lines_of h.0 (g ∷ gs) ≡ h.1)
+          (λ h far at. rw (apart_same h.0 g.0 far) at) gs
+          (each_map (λ n. (n == g.0) ≡ false) (λ h. h.0) gs (none_is g.0 counts p.0))
+          (lines_said gs p.1),
+    )
 
 -- each row is found at its tag
 pub rows_found : {Kind : Type 0} (rs : List (Row Kind))
     → are_apart (tags_of rs) ≡ true → AllByRecursion (λ r. row_at r.tag rs ≡ Some r) rs
 rows_found [] apart = tt
 rows_found (r ∷ rs) apart =
-    let parts = both (not (is_one_of (tags_of rs) r.tag)) (are_apart (tags_of rs)) apart in
-    (rw (same_number r.tag) refl, other_rows r rs rs (not_true _ parts.0) (rows_found rs parts.1))
+    let p = apart_first r.tag (tags_of rs) apart in (
+      rw (same_number r.tag) refl,
+      each_two (λ q. (q.tag == r.tag) ≡ false) _ (λ q. row_at q.tag (r ∷ rs) ≡ Some q)
+          (λ q far at. rw (apart_same q.tag r.tag far) at) rs
+          (each_map (λ n. (n == r.tag) ≡ false) (λ q. q.tag) rs (none_is r.tag (tags_of rs) p.0))
+          (rows_found rs p.1),
+    )
 
 -- the places of the cells that fields say are those of the items
 module _ {Kind : Type 0}
@@ -85,6 +85,5 @@ module _ {Kind : Type 0}
       → map (λ g. g.0) (map (group_says judge fields) (flat_map groups_of items))
       ≡ map (λ g. g.count) (flat_map groups_of items)
   counts_said [] = refl
-  counts_said (One row ∷ items) = counts_said items
-  counts_said (Party role ∷ items) = counts_said items
   counts_said (Lines group ∷ items) = ap (◌∷◌ group.count) (counts_said items)
+  counts_said (item ∷ items) = counts_said items

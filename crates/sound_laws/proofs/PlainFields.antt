@@ -1,14 +1,13 @@
 -- The fields of a sound message are no raw data, and not too many, so that a body of them is split
 -- again into them.
 use Rattle.std.proofs.Common.{rules, ◌≡◌, ◌≤◌, ◌+◌, ℕ, zero, suc, List, [], ◌∷◌, length, All}
-use Rattle.std.proofs.Common.{Option, Some, None, Bool, true, sym, subst, arith, length-append}
-use Rattle.std.specs.Prelude.{not, nat_le, ◌&&◌, IfSome}
+use Rattle.std.proofs.Common.{Option, Some, None, Bool, true, arith, length-append}
+use Rattle.std.specs.Prelude.{not, nat_le, ◌&&◌}
 use Rattle.std.specs.List.{AllByRecursion, flat_map, list_all}
 use Rattle.std.specs.Fmt.{decimal}
 use Rattle.std.proofs.lemmas.Fmt.{digits_decimal}
 use Rattle.std.proofs.lemmas.Bool.Decides.{nat_tests}
 use Rattle.std.proofs.lemmas.List.Elements.{All-cons}
-use Rattle.typed_fields.specs.Digits.{are_digits}
 use Rattle.typed_fields.proofs.DigitsLemmas.{numerals}
 use Rattle.field_groups.specs.Data.{is_data_tag}
 use Rattle.field_groups.specs.Field.{Field, IsPlainField, AreFields}
@@ -18,9 +17,10 @@ use Rattle.message_tables.specs.Tables.{Said, Place, Tag, Role, said_at, lines_o
 use Rattle.message_tables.specs.Content.{content, cell_fields, line_fields, group_fields}
 use Rattle.message_tables.specs.Content.{item_fields}
 use Rattle.sound_laws.specs.Sound.{IsClear, AreSaid, IsLine, IsItem, IsSound}
-use Rattle.sound_laws.proofs.Each.{both, not_true, each_joined}
+use Rattle.sound_laws.proofs.Each.{all_true, both, each_by, not_true}
 use Rattle.sound_laws.proofs.ReadSound.{IsClearField}
 use Rattle.sound_laws.proofs.SpelledAgain.{digits_clear}
+use Rattle.sound_laws.proofs.Stages.{OfItem, OfRow, items_each}
 
 -- a tag of a field that is no raw data
 abbrev pub is_good_tag : ℕ → Bool
@@ -40,8 +40,7 @@ plain_field tag text good clear =
     let low = a.0 in let high = b.0 in
     record {
       positive = grind (arith, nat_tests);
-      nine_digits =
-          grind (arith, nat_tests);
+      nine_digits = grind (arith, nat_tests);
       no_data = not_true (is_data_tag tag) b.1;
       no_soh = clear;
     }
@@ -49,10 +48,24 @@ plain_field tag text good clear =
 abbrev pub Plains : List Field → Type 0
 Plains fields = AllByRecursion IsPlainField fields
 
-cell_plain : (tag : ℕ) (said : Said)
-    → is_good_tag tag ≡ true → IfSome said IsClear → Plains (cell_fields (Tag tag, said))
-cell_plain tag None good clear = tt
-cell_plain tag (Some text) good clear = (plain_field tag text good clear, tt)
+module _ {Kind : Type 0} (judge : Judge Kind) where
+  good_rows : (rows : List (Row Kind)) → list_all (λ row. is_good_tag row.tag) rows ≡ true
+      → (line : List Field) → AllByRecursion (OfRow judge IsPlainField line) rows
+  good_rows rows good line = each_by _ (OfRow judge IsPlainField line)
+      (λ row g text said clear. plain_field row.tag text g clear) rows
+      (all_true (λ row. is_good_tag row.tag) rows good)
+
+  good_item : (fields : List Field) (item : Item Kind) → has_good_tags item ≡ true
+      → OfItem judge IsPlainField fields item
+  good_item fields (One row) good = λ text said clear. plain_field row.tag text good clear
+  good_item fields (Party role) good = tt
+  good_item fields (Lines group) good =
+      let t =
+      both (is_good_tag group.count) (list_all (λ row. is_good_tag row.tag) group.rows) good in (
+        λ n few. plain_field group.count (decimal n) t.0
+            (digits_clear (decimal n) (digits_decimal numerals n (omega (arith, few)))),
+        good_rows group.rows t.1,
+      )
 
 -- ---- how many fields are written at most
 
@@ -86,36 +99,13 @@ cell_length (Tag tag) (Some text) = omega arith
 cell_length (Role role) said = omega arith
 
 module _ {Kind : Type 0} (judge : Judge Kind) where
-  line_plain : (fields : List Field) (rows : List (Row Kind)) (line : List Cell)
-      → list_all (λ row. is_good_tag row.tag) rows ≡ true → AreSaid judge fields rows line →
-      Plains (line_fields line)
-  line_plain fields [] [] good said = tt
-  line_plain fields [] (cell ∷ cells) good said = absurd said
-  line_plain fields (row ∷ rows) [] good said = absurd said
-  line_plain fields (row ∷ rows) (cell ∷ cells) good said =
-      let g = both (is_good_tag row.tag) (list_all (λ r. is_good_tag r.tag) rows) good in
-      let P : Place → Type 0 = λ p. Plains (cell_fields (p, cell.1)) in
-      let here : Plains (cell_fields cell) =
-      subst P (sym said.0) (cell_plain row.tag cell.1 g.0 said.1.clear) in
-      each_joined IsPlainField
-      (cell_fields cell) (line_fields cells) here (line_plain fields rows cells g.1 said.2)
-
   line_length : (fields : List Field) (rows : List (Row Kind)) (line : List Cell)
       → AreSaid judge fields rows line → length (line_fields line) ≤ length rows
   line_length fields [] [] said = omega arith
-  line_length fields [] (cell ∷ cells) said = absurd said
-  line_length fields (row ∷ rows) [] said = absurd said
   line_length fields (row ∷ rows) (cell ∷ cells) said =
       let one = cell_length cell.0 cell.1 in let rest = line_length fields rows cells said.2 in
       omega (arith, one, rest, length-append (cell_fields cell) (line_fields cells))
-
-  lines_plain : (rows : List (Row Kind)) (lines : List (List Cell)) → list_all
-      (λ row. is_good_tag row.tag) rows ≡ true → AllByRecursion (IsLine judge rows) lines →
-      Plains (flat_map line_fields lines)
-  lines_plain rows [] good said = tt
-  lines_plain rows (line ∷ lines) good said =
-      each_joined IsPlainField (line_fields line) (flat_map line_fields lines)
-      (line_plain (line_fields line) rows line good said.0) (lines_plain rows lines good said.1)
+  line_length fields rows line said = absurd said
 
   lines_length : (rows : List (Row Kind)) (lines : List (List Cell))
       → AllByRecursion (IsLine judge rows) lines →
@@ -127,19 +117,6 @@ module _ {Kind : Type 0} (judge : Judge Kind) where
       lines_length rows lines said.1 in
       omega (arith, one, rest, length-append (line_fields line) (flat_map line_fields lines))
 
-  group_plain : (count : ℕ) (rows : List (Row Kind)) (lines : List (List Cell))
-      → is_good_tag count ≡ true → list_all (λ row. is_good_tag row.tag) rows ≡ true →
-      length lines ≤ 32
-      → AllByRecursion (IsLine judge rows) lines → Plains (group_fields count lines)
-  group_plain count rows [] good tags few said = tt
-  group_plain count rows (line ∷ lines) good tags few said =
-      let n = length (line ∷ lines) in
-      let digits : are_digits (decimal n) ≡ true =
-      digits_decimal numerals n (omega (arith, few)) in (
-        plain_field count (decimal n) good (digits_clear (decimal n) digits),
-        lines_plain rows (line ∷ lines) tags said,
-      )
-
   group_length : (count n : ℕ) (rows : List (Row Kind)) (lines : List (List Cell))
       → length lines ≤ n → AllByRecursion (IsLine judge rows) lines →
       length (group_fields count lines) ≤ 1 + times n (length rows)
@@ -150,25 +127,6 @@ module _ {Kind : Type 0} (judge : Judge Kind) where
       omega (arith, whole, grown)
 
   module _ (fields : List Field) (m : Message) where
-    item_plain : (item : Item Kind) → has_good_tags item ≡ true
-        → IsItem judge fields m item → Plains (item_fields m item)
-    item_plain (One row) good said =
-        cell_plain row.tag (said_at m.cells (Tag row.tag)) good said.clear
-    item_plain (Party role) good said = tt
-    item_plain (Lines group) good said =
-        let t =
-        both (is_good_tag group.count) (list_all (λ row. is_good_tag row.tag) group.rows) good in
-        group_plain group.count group.rows (lines_of group.count m.groups) t.0 t.1 said.few
-        said.said
-
-    items_plain : (items : List (Item Kind)) → list_all has_good_tags items ≡ true
-        → AllByRecursion (IsItem judge fields m) items → Plains (flat_map (item_fields m) items)
-    items_plain [] good said = tt
-    items_plain (item ∷ items) good said =
-        let g = both (has_good_tags item) (list_all has_good_tags items) good in
-        each_joined IsPlainField (item_fields m item) (flat_map (item_fields m) items)
-        (item_plain item g.0 said.0) (items_plain items g.1 said.1)
-
     module _ (limit : ℕ → ℕ) (within : (count : ℕ) → length (lines_of count m.groups) ≤ 32
         → length (lines_of count m.groups) ≤ limit count) where
       item_length : (item : Item Kind) → IsItem judge fields m item
@@ -206,7 +164,9 @@ pub few_within : {Kind : Type 0} (judge : Judge Kind) (table : Table Kind) (m : 
 few_within judge table m limit good most within sound =
     let few = items_length judge (content table m) m limit within table.items sound.items in
     record {
-      plain = items_plain judge (content table m) m table.items good sound.items;
+      plain = items_each judge IsPlainField (content table m) m table.items (each_by _ _
+          (good_item judge (content table m)) table.items (all_true has_good_tags table.items good))
+          sound.items;
       few = omega (arith, few, most);
     }
 

@@ -9,9 +9,8 @@ use Rattle.message_tables.specs.declared.table_fault.TableFault.{TableFault}
 use Rattle.field_groups.specs.Field.{Field}
 use Rattle.field_groups.specs.Data.{is_data_tag}
 use Rattle.message_tables.specs.Tables.{Spells, Need, Required, Optional, Fixed, When, Row}
-use Rattle.message_tables.specs.Tables.{RepeatingGroup, Item, One, Party, Lines, Table, Message}
-use Rattle.message_tables.specs.Tables.{GroupTags, is_inside, is_needed, is_one_of, groups_of}
-use Rattle.message_tables.specs.Tables.{tags_in}
+use Rattle.message_tables.specs.Tables.{RepeatingGroup, Item, Lines, Table, Message, GroupTags}
+use Rattle.message_tables.specs.Tables.{is_inside, is_needed, is_one_of, groups_of, tags_in}
 use Rattle.message_tables.specs.FirstFault.{first_fault, message_in, message_of, unless}
 use Rattle.message_tables.proofs.Few.{IsPlain}
 use Rattle.row_values.specs.Kinds.{Kind, Value, judge, verdict_of, row}
@@ -19,10 +18,10 @@ use Rattle.first_faults.specs.Faults.{told}
 use Rattle.row_values.specs.Contras.{contras}
 use Rattle.row_values.specs.Groups.{parties, allocs, sessions}
 use Rattle.sound_laws.specs.Sound.{IsClear}
-use Rattle.sound_laws.proofs.Each.{both, not_true}
+use Rattle.sound_laws.proofs.Each.{all_true, both, each_by, not_true}
 use Rattle.sound_laws.proofs.SpelledAgain.{spelled_again, spelled_clear}
-use Rattle.sound_laws.proofs.ReadSound.{IsPlainRow, IsPlainItem, IsStableRow, IsStableItem, after}
-use Rattle.sound_laws.proofs.ReadSound.{row_passes, stable_items}
+use Rattle.sound_laws.proofs.ReadSound.{IsPlainRow, IsPlainItem, IsStableItem, after, row_passes}
+use Rattle.sound_laws.proofs.ReadSound.{stable_items}
 
 -- ---- values
 
@@ -62,70 +61,55 @@ plain_kind kind = false
 abbrev pub is_plain_row : Row Kind → Bool
 is_plain_row row = not (is_data_tag row.tag) && (plain_need row.need && plain_kind row.kind)
 
-steady_need : (need : Need)
-    → plain_need need ≡ true → (l k : List Field) → is_needed need l ≡ is_needed need k
-steady_need (When condition) h l k = absurd cc
-steady_need need h l k = refl
+steady_need : (need : Need) → plain_need need ≡ true → (l k : List Field)
+    → is_needed need k ≡ true → is_needed need l ≡ true
+steady_need (When condition) h l k n = absurd cc
+steady_need need h l k n = n
 
-plain_same : (kind : Kind) → plain_kind kind ≡ true
-    → (l k : List Field) (bytes : List ℕ) → judge l kind bytes ≡ judge k kind bytes
+-- a row of values that are judged by themselves
+plain_by : (tag : ℕ) (kind : ValueKind) (need : Need) → is_data_tag tag ≡ false
+    → ((l k : List Field) → is_needed need k ≡ true → is_needed need l ≡ true)
+    → ((text : List ℕ) → need ≡ Fixed text
+    → (verdict_of (spelling kind text) ≡ Spells text) × IsClear text)
+    → IsPlainRow judge (row need tag kind)
 unfolding judge
-plain_same (Value kind) h l k bytes = refl
-plain_same other h l k bytes = absurd cc
+plain_by tag kind need bare steady fixed = record {
+  same = λ l k bytes. refl;
+  stable = λ before after. record {
+    kept = steady before after;
+    spelled = λ bytes text at. value_again kind bytes text;
+    clear = value_clear kind;
+    fixed = fixed;
+    bare = bare;
+  };
+}
 
-plain_again : (kind : Kind) → plain_kind kind ≡ true
-    → (bytes text : List ℕ) → judge [] kind bytes ≡ Spells text → judge [] kind text ≡ Spells text
-unfolding judge
-plain_again (Value kind) h bytes text e = value_again kind bytes text e
-plain_again other h bytes text e = absurd cc
-
-plain_clear : (kind : Kind) → plain_kind kind ≡ true
-    → (bytes text : List ℕ) → IsClear bytes → judge [] kind bytes ≡ Spells text → IsClear text
-unfolding judge
-plain_clear (Value kind) h bytes text c e = value_clear kind bytes text c e
-plain_clear other h bytes text c e = absurd cc
+plain_kinds : (tag : ℕ) (kind : Kind) (need : Need) → not (is_data_tag tag) ≡ true
+    → plain_need need ≡ true → plain_kind kind ≡ true
+    → IsPlainRow judge (record { tag = tag; kind = kind; need = need })
+plain_kinds tag (Value kind) need bare known is = plain_by tag kind need (not_true _ bare)
+    (steady_need need known)
+    (λ text e. absurd (unfixed plain_need (λ other. refl) need known text e))
+plain_kinds tag kind need bare known is = absurd cc
 
 plain_row : (row : Row Kind) → is_plain_row row ≡ true → IsPlainRow judge row
 plain_row row h =
     let a = both (not (is_data_tag row.tag)) (plain_need row.need && plain_kind row.kind) h in
     let b = both (plain_need row.need) (plain_kind row.kind) a.1 in
-    record {
-      steady = steady_need row.need b.0;
-      same = plain_same row.kind b.1;
-      spelled = plain_again row.kind b.1;
-      clear = plain_clear row.kind b.1;
-      fixed = λ text e. absurd (unfixed plain_need (λ other. refl) row.need b.0 text e);
-      bare = not_true (is_data_tag row.tag) a.0;
-    }
+    plain_kinds row.tag row.kind row.need a.0 b.0 b.1
 
 plain_rows : (rows : List (Row Kind))
     → list_all is_plain_row rows ≡ true → AllByRecursion (IsPlainRow judge) rows
-plain_rows [] h = tt
-plain_rows (row ∷ rows) h = let p = both (is_plain_row row) (list_all is_plain_row rows) h
-    in (plain_row row p.0, plain_rows rows p.1)
+plain_rows rows h = each_by _ _ plain_row rows (all_true is_plain_row rows h)
 
--- PartyIDSource, which is D whatever stands there
-abbrev source : Row Kind
-source = row (Fixed (codes "D")) 447 OneByte
-
-source_fixed : (text : List ℕ)
-    → source.need ≡ Fixed text → (judge [] source.kind text ≡ Spells text) × IsClear text
-unfolding judge spelling
+-- PartyIDSource is D, whatever stands there
+source_fixed : (text : List ℕ) → ◌≡◌ {A = Need} (Fixed (codes "D")) (Fixed text)
+    → (verdict_of (spelling OneByte text) ≡ Spells text) × IsClear text
+unfolding spelling
 source_fixed text e =
     let is : codes "D" ≡ text = cc in
-    let P : List ℕ → Type 0 = λ t. (judge [] source.kind t ≡ Spells t) × IsClear t in
-    subst P is (refl, refl)
-
-plain_source : IsPlainRow judge source
-unfolding judge is_data_tag
-plain_source = record {
-  steady = λ l k. refl;
-  same = λ l k bytes. refl;
-  spelled = value_again OneByte;
-  clear = value_clear OneByte;
-  fixed = source_fixed;
-  bare = refl;
-}
+    let P : List ℕ → Type 0 =
+    λ t. (verdict_of (spelling OneByte t) ≡ Spells t) × IsClear t in subst P is (refl, refl)
 
 -- ---- groups
 
@@ -136,7 +120,10 @@ pub parties_plain : HasPlainRows parties
 unfolding is_data_tag
 parties_plain = (
   plain_row (row Required 448 Id) refl,
-  (plain_source, (plain_row (row Required 452 Number) refl, tt)),
+  (
+    plain_by 447 OneByte (Fixed (codes "D")) refl (λ l k n. n) source_fixed,
+    (plain_row (row Required 452 Number) refl, tt),
+  ),
 )
 
 pub allocs_plain : HasPlainRows allocs
@@ -177,32 +164,17 @@ module _ (table : Table Kind) (fields : List Field) where
       → AllByRecursion HasPlainRows (flat_map groups_of items) →
       AllByRecursion (IsPlainItem judge table fields) items
   plain_items [] h = tt
-  plain_items (One row ∷ items) h = (tt, plain_items items h)
-  plain_items (Party role ∷ items) h = (tt, plain_items items h)
   plain_items (Lines group ∷ items) h = (h.0, plain_items items h.1)
+  plain_items (item ∷ items) h = (tt, plain_items items h)
 
 -- rows that stand by themselves, whatever other rows say
 abbrev pub is_plain_item : Item Kind → Bool
 is_plain_item = row_passes is_plain_row
 
-plain_stable : (table : Table Kind) (fields : List Field) (row : Row Kind)
-    → IsPlainRow judge row → IsStableRow judge table fields row
-plain_stable table fields row p =
-    let later = after judge table fields in
-    record {
-      kept = λ n. p.steady fields later ∙ n;
-      spelled = λ bytes text at e. p.same later [] text
-          ∙ p.spelled bytes text (p.same [] fields bytes ∙ e);
-      clear = λ bytes text c e. p.clear bytes text c (p.same [] fields bytes ∙ e);
-      fixed = λ text e. (p.same later [] text ∙ (p.fixed text e).0, (p.fixed text e).1);
-      bare = p.bare;
-    }
-
 pub plain_stables : (table : Table Kind) (fields : List Field) (items : List (Item Kind))
-    → list_all is_plain_item items ≡ true
-    → AllByRecursion (IsStableItem judge table fields) items
+    → list_all is_plain_item items ≡ true → AllByRecursion (IsStableItem judge table fields) items
 plain_stables table fields = stable_items judge table fields is_plain_row
-    (λ row h. plain_stable table fields row (plain_row row h))
+    (λ row h. (plain_row row h).stable fields (after judge table fields))
 
 -- ---- a message of a table that was read
 

@@ -1,12 +1,11 @@
 -- What is read by a table that has a month beside its date is sound, and complete where that month
 -- is told by the date.
-use Rattle.std.proofs.Common.{◌≡◌, List, Option, Some, None, Bool, true, false, refl, sym, ap}
-use Rattle.std.proofs.Common.{subst, ◌∙◌, map, [], ◌∷◌}
+use Rattle.std.proofs.Common.{◌≡◌, List, Some, None, Bool, true, false, refl, sym, ap, subst, ◌∙◌}
+use Rattle.std.proofs.Common.{map, [], ◌∷◌}
 use Rattle.std.specs.Prelude.{Ok, IfSome}
 use Rattle.std.specs.List.{AllByRecursion, flat_map, list_any, list_all}
 use Rattle.field_groups.specs.Field.{Field}
 use Rattle.field_groups.specs.Data.{is_data_tag}
-use Rattle.message_tables.specs.declared.table_fault.TableFault.{TableFault}
 use Rattle.message_tables.specs.Tables.{Row, Table, Message, Tag, is_place, Said, said_at}
 use Rattle.message_tables.specs.Tables.{groups_of, groups_in, is_listed, value_at, all_rows}
 use Rattle.message_tables.specs.Tables.{tags_of}
@@ -36,13 +35,13 @@ pub read_of : (t : Table Kind) (fields : List Field) (x : Message)
     → completed_by (told (message_of judge t fields)) ≡ Ok x
     → (first_fault judge t fields ≡ None) × (completed (message_in judge t fields) ≡ x)
 unfolding message_of
-read_of t fields x e = by (first_fault judge t fields) refl e
-  where
-    by : (f : Option TableFault) → first_fault judge t fields ≡ f
-        → completed_by (told (unless f (message_in judge t fields))) ≡ Ok x
-        → (first_fault judge t fields ≡ None) × (completed (message_in judge t fields) ≡ x)
-    by None good h = let is : completed (message_in judge t fields) ≡ x = cc in (good, is)
-    by (Some fault) good h = absurd cc
+read_of t fields x e =
+    elim (first_fault judge t fields) as (λ f. first_fault judge t fields ≡ f
+    → completed_by (told (unless f (message_in judge t fields))) ≡ Ok x
+    → (first_fault judge t fields ≡ None) × (completed (message_in judge t fields) ≡ x)) [
+      | None ↦ λ good h. let is : completed (message_in judge t fields) ≡ x = cc in (good, is)
+      | Some fault ↦ λ good h. absurd (cc h)
+    ] refl e
 
 -- the tests of such a table: each tag, place and count stands once, the rows are of these kinds,
 -- and the month and the date have their places
@@ -76,10 +75,6 @@ module _ (fields : List Field) (t : Table Kind) where
     pub types : timed ≡ true
         → (is_alone 40 t.items ≡ true) × (said_at m.cells (Tag 40) ≡ type_said fields)
     pub kept : HasGroups → KeepsType fields after
-
-  date_same : date_said fields ≡ date_at 541 fields
-  unfolding judge
-  date_same = refl
 
   module _ (clear : AllByRecursion (IsClearField judge) fields) (timed : Bool) (is : IsDated timed)
     where
@@ -126,10 +121,11 @@ module _ (fields : List Field) (t : Table Kind) where
           known) clear none
 
       complete : first_fault judge t fields ≡ None → IsComplete t (completed m)
+      unfolding judge
       complete none =
           let s = dated_sound none in
           let groups = groups_said judge after m t.items s.items in
-          let there : said_at m.cells (Tag 541) ≡ date_at 541 fields = is.date ∙ date_same in
+          let there : said_at m.cells (Tag 541) ≡ date_at 541 fields = is.date in
           let at_date = (alike groups).date ∙ sym there in
           let no_soh = subst (λ (date : Said). IfSome date IsClear) (sym there)
           (clear_date fields clear) in

@@ -1,17 +1,16 @@
 -- What is read at no fault is a sound message, over any judge and table.
-use Rattle.std.proofs.Common.{◌≡◌, ◌≤◌, ℕ, List, [], ◌∷◌, map, length, Option, Some}
-use Rattle.std.proofs.Common.{None, Bool, true, false, refl, sym, ap, subst, ◌∙◌, arith}
+use Rattle.std.proofs.Common.{◌≡◌, ◌≤◌, ℕ, List, [], ◌∷◌, map, length, Option, Some, None, Bool}
+use Rattle.std.proofs.Common.{true, false, refl, sym, ap, subst, ◌∙◌, arith}
 use Rattle.std.specs.Prelude.{IsSome, IfSome}
 use Rattle.std.specs.List.{AllByRecursion, flat_map, list_all}
 use Rattle.std.proofs.lemmas.List.{length-map}
 use Rattle.field_groups.specs.Field.{Field}
 use Rattle.field_groups.specs.Data.{is_data_tag}
 use Rattle.message_tables.specs.Tables.{Row, Need, Fixed, RepeatingGroup, Item, One, Party, Lines}
-use Rattle.message_tables.specs.Tables.{Table, Judge, Verdict, Spells, Message, Cell, Said, ◌>>=◌}
+use Rattle.message_tables.specs.Tables.{Table, Judge, Verdict, Spells, Message, Cell, Said}
 use Rattle.message_tables.specs.Tables.{value_at, is_needed, row_at, rows_of, rows_in, all_rows}
-use Rattle.message_tables.specs.Tables.{groups_of, groups_in, tags_in, tags_of, lines_in, text_of}
-use Rattle.message_tables.specs.Tables.{says, first_of, said_at, lines_of, cell_of, cells_of}
-use Rattle.message_tables.specs.Tables.{group_says}
+use Rattle.message_tables.specs.Tables.{groups_of, groups_in, tags_in, tags_of, lines_in, says}
+use Rattle.message_tables.specs.Tables.{first_of, said_at, lines_of, cell_of, cells_of, group_says}
 use Rattle.message_tables.specs.FirstFault.{missing, missing_of, first_fault, message_in}
 use Rattle.message_tables.specs.FirstFault.{group_tags_of, group_tags_in}
 use Rattle.message_tables.specs.Content.{content, line_fields}
@@ -25,7 +24,7 @@ use Rattle.sound_laws.proofs.Lookups.{places_apart, cells_said, lines_said, rows
 use Rattle.sound_laws.proofs.Lookups.{counts_said}
 use Rattle.sound_laws.proofs.ContentValues.{GroupSaid}
 use Rattle.sound_laws.proofs.Good.{in_lines_each, held, IsGood, all_good, row_is_said}
-use Rattle.sound_laws.proofs.RowsSaid.{text_again}
+use Rattle.sound_laws.proofs.RowsSaid.{by_value, text_again}
 
 -- an item of which a row passes a test
 abbrev pub row_passes : {Kind : Type 0} → (Row Kind → Bool) → Item Kind → Bool
@@ -33,34 +32,28 @@ row_passes test (One row) = test row
 row_passes test item = true
 
 module _ {Kind : Type 0} (judge : Judge Kind) where
-  -- a value that was judged beside some fields, and is judged again beside others
-  pub record Keeps (before after : List Field) (row : Row Kind) (value : Option (List ℕ)) : Type 0
-    where
-      pub needed : is_needed row.need after ≡ true
-          → IsSome (says row.need (judge before row.kind) value)
-      pub spelled : (bytes text : List ℕ) → value ≡ Some bytes
-          → judge before row.kind bytes ≡ Spells text → judge after row.kind text ≡ Spells text
-      pub clear : (bytes text : List ℕ)
-          → value ≡ Some bytes → judge before row.kind bytes ≡ Spells text → IsClear text
-      pub fixed : (text : List ℕ)
-          → row.need ≡ Fixed text → (judge after row.kind text ≡ Spells text) × IsClear text
+  -- a value that is no raw data has no SOH
+  abbrev pub IsClearField : Field → Type 0
+  IsClearField f = is_data_tag f.0 ≡ false → IsClear f.1
+
+  -- a row by which what was judged beside some fields is judged again beside others: what makes it
+  -- needed stays, and spellings stay canonical
+  pub record IsStable (before after : List Field) (row : Row Kind) : Type 0 where
+    pub kept : is_needed row.need after ≡ true → is_needed row.need before ≡ true
+    pub spelled : (bytes text : List ℕ) → value_at row.tag before ≡ Some bytes
+        → judge before row.kind bytes ≡ Spells text → judge after row.kind text ≡ Spells text
+    pub clear : (bytes text : List ℕ)
+        → IsClear bytes → judge before row.kind bytes ≡ Spells text → IsClear text
+    pub fixed : (text : List ℕ)
+        → row.need ≡ Fixed text → (judge after row.kind text ≡ Spells text) × IsClear text
+    pub bare : is_data_tag row.tag ≡ false
 
   module _ (P : List ℕ → Type 0) where
-    by_value : (j : List ℕ → Verdict) (value : Option (List ℕ))
-        → ((bytes text : List ℕ) → value ≡ Some bytes → j bytes ≡ Spells text → P text) →
-        IfSome (value >>= (λ bytes. text_of (j bytes))) P
-    by_value j None h = tt
-    by_value j (Some bytes) h = by (j bytes) refl
-      where
-        by : (v : Verdict) → j bytes ≡ v → IfSome (text_of v) P
-        by (Spells text) e = h bytes text refl e
-        by other e = tt
-
     by_need : (need : Need) (j : List ℕ → Verdict) (value : Option (List ℕ))
         → ((bytes text : List ℕ) → value ≡ Some bytes → j bytes ≡ Spells text → P text) →
         ((text : List ℕ) → need ≡ Fixed text → P text) → IfSome (says need j value) P
     by_need (Fixed text) j value h k = k text refl
-    by_need need j value h k = by_value j value h
+    by_need need j value h k = by_value P j value h
 
   says_again : (need : Need) (i j : List ℕ → Verdict) (value : Option (List ℕ))
       → IfSome (says need i value) (λ text. j text ≡ Spells text) →
@@ -68,35 +61,28 @@ module _ {Kind : Type 0} (judge : Judge Kind) where
   says_again (Fixed text) i j value h = refl
   says_again need i j value h = text_again j (says need i value) h
 
-  pub row_sound : (before after : List Field) (row : Row Kind) (value : Option (List ℕ))
-      → Keeps before after row value →
-      IsSaid judge after row (says row.need (judge before row.kind) value)
-  row_sound before after row value k =
-      let spelled = by_need (λ text. judge after row.kind text ≡ Spells text)
-      row.need (judge before row.kind) value k.spelled (λ text e. (k.fixed text e).0) in
+  row_sound : (before after : List Field) (row : Row Kind) → IsStable before after row
+      → AllByRecursion IsClearField before → (is_needed row.need before ≡ true
+      → IsSome (says row.need (judge before row.kind) (value_at row.tag before)))
+      → IsSaid judge after row (says row.need (judge before row.kind) (value_at row.tag before))
+  row_sound before after row s clear there =
+      let j = judge before row.kind in
+      let value = value_at row.tag before in
+      let spelled = by_need (λ text. judge after row.kind text ≡ Spells text) row.need j value
+      s.spelled (λ text e. (s.fixed text e).0) in
       record {
-        needed = k.needed;
+        needed = λ n. there (s.kept n);
         spelled = spelled;
-        again = says_again row.need (judge before row.kind) (judge after row.kind) value spelled;
-        clear = by_need
-            IsClear row.need (judge before row.kind) value k.clear (λ text e. (k.fixed text e).1);
+        again = says_again row.need j (judge after row.kind) value spelled;
+        clear = by_need IsClear row.need j value
+            (λ bytes text at. s.clear bytes text (held IsClearField row.tag before bytes at clear
+            s.bare)) (λ text e. (s.fixed text e).1);
       }
 
   -- a member of a group, whose values are judged by themselves
   pub record IsPlainRow (row : Row Kind) : Type 0 where
-    pub steady : (l k : List Field) → is_needed row.need l ≡ is_needed row.need k
     pub same : (l k : List Field) (bytes : List ℕ) → judge l row.kind bytes ≡ judge k row.kind bytes
-    pub spelled : (bytes text : List ℕ)
-        → judge [] row.kind bytes ≡ Spells text → judge [] row.kind text ≡ Spells text
-    pub clear : (bytes text : List ℕ)
-        → IsClear bytes → judge [] row.kind bytes ≡ Spells text → IsClear text
-    pub fixed : (text : List ℕ)
-        → row.need ≡ Fixed text → (judge [] row.kind text ≡ Spells text) × IsClear text
-    pub bare : is_data_tag row.tag ≡ false
-
-  -- a value that is no raw data has no SOH
-  abbrev pub IsClearField : Field → Type 0
-  IsClearField f = is_data_tag f.0 ≡ false → IsClear f.1
+    pub stable : (before after : List Field) → IsStable before after row
 
   module _ (table : Table Kind) (fields : List Field) where
     abbrev pub m : Message
@@ -106,16 +92,9 @@ module _ {Kind : Type 0} (judge : Judge Kind) where
     abbrev pub after : List Field
     after = content table m
 
-    -- a row that stands by itself: what makes it needed stays, and spellings stay canonical
-    pub record IsStableRow (row : Row Kind) : Type 0 where
-      pub kept : is_needed row.need after ≡ true → is_needed row.need fields ≡ true
-      pub spelled : (bytes text : List ℕ) → value_at row.tag fields ≡ Some bytes
-          → judge fields row.kind bytes ≡ Spells text → judge after row.kind text ≡ Spells text
-      pub clear : (bytes text : List ℕ)
-          → IsClear bytes → judge fields row.kind bytes ≡ Spells text → IsClear text
-      pub fixed : (text : List ℕ)
-          → row.need ≡ Fixed text → (judge after row.kind text ≡ Spells text) × IsClear text
-      pub bare : is_data_tag row.tag ≡ false
+    -- a row that stands by itself
+    abbrev pub IsStableRow : Row Kind → Type 0
+    IsStableRow = IsStable fields after
 
     abbrev pub IsStableItem : Item Kind → Type 0
     IsStableItem (One row) = IsStableRow row
@@ -152,25 +131,6 @@ module _ {Kind : Type 0} (judge : Judge Kind) where
 
     module _ (good : AllByRecursion (IsGood judge table fields) fields)
         (clear : AllByRecursion IsClearField fields) where
-      each_missing : (rows : List (Row Kind)) (lines : List (List Field))
-          → AllByRecursion (λ line. first_of (missing line) rows ≡ None) lines →
-          AllByRecursion (λ line. AllByRecursion (λ row. missing line row ≡ None) rows) lines
-      each_missing rows [] h = tt
-      each_missing rows (line ∷ lines) h =
-          (none_each (missing line) rows h.0, each_missing rows lines h.1)
-
-      -- a row
-      one_sound : (row : Row Kind) → row_at row.tag (all_rows table) ≡ Some row
-          → missing fields row ≡ None → IsStableRow row →
-          IsSaid judge after row (says row.need (judge fields row.kind) (value_at row.tag fields))
-      one_sound row its there s = row_sound fields after row (value_at row.tag fields) (record {
-        needed = λ n. row_is_said judge table fields row fields its there good (s.kept n);
-        spelled = s.spelled;
-        clear = λ bytes text at e.
-            s.clear bytes text (held IsClearField row.tag fields bytes at clear s.bare) e;
-        fixed = s.fixed;
-      })
-
       -- a member of a line
       member_sound : (line others : List Field) (row : Row Kind)
           → row_at row.tag (all_rows table) ≡ Some row → missing line row ≡ None → IsPlainRow row →
@@ -179,18 +139,10 @@ module _ {Kind : Type 0} (judge : Judge Kind) where
       member_sound line others row its there p g c =
           let same : (λ bytes. judge fields row.kind bytes) ≡ (λ bytes. judge line row.kind bytes) =
           λ i bytes. p.same fields line bytes i in
-          row_sound line others row (value_at row.tag line) (record {
-            needed = λ n.
-                let Q : (List ℕ → Verdict) → Type 0 =
-                λ j. IsSome (says row.need j (value_at row.tag line)) in
-                subst Q same (row_is_said
-                judge table fields row line its there g (p.steady line others ∙ n));
-            spelled = λ bytes text at e. p.same others [] text
-                ∙ p.spelled bytes text (p.same [] line bytes ∙ e);
-            clear = λ bytes text at e. p.clear bytes
-                text (held IsClearField row.tag line bytes at c p.bare) (p.same [] line bytes ∙ e);
-            fixed = λ text e. (p.same others [] text ∙ (p.fixed text e).0, (p.fixed text e).1);
-          })
+          let Q : (List ℕ → Verdict) → Type 0 =
+          λ j. IsSome (says row.need j (value_at row.tag line)) in
+          row_sound line others row (p.stable line others) c
+          (λ n. subst Q same (row_is_said judge table fields row line its there g n))
 
       members_sound : (line others : List Field) (rows : List (Row Kind))
           → AllByRecursion (λ row. row_at row.tag (all_rows table) ≡ Some row) rows →
@@ -206,15 +158,15 @@ module _ {Kind : Type 0} (judge : Judge Kind) where
 
       lines_sound : (rows : List (Row Kind)) (lines : List (List Field))
           → AllByRecursion (λ row. row_at row.tag (all_rows table) ≡ Some row) rows →
-          AllByRecursion (λ line. AllByRecursion (λ row. missing line row ≡ None) rows) lines
+          AllByRecursion (λ line. first_of (missing line) rows ≡ None) lines
           → AllByRecursion IsPlainRow rows →
           AllByRecursion (AllByRecursion (IsGood judge table fields)) lines
           → AllByRecursion (AllByRecursion IsClearField) lines →
           AllByRecursion (IsLine judge rows) (map (λ line. map (cell_of judge line) rows) lines)
       lines_sound rows [] its there p g c = tt
       lines_sound rows (line ∷ lines) its there p g c = (
-        members_sound line (line_fields (map (cell_of judge line) rows))
-            rows its there.0 p g.0 c.0,
+        members_sound line (line_fields (map (cell_of judge line) rows)) rows its
+            (none_each (missing line) rows there.0) p g.0 c.0,
         lines_sound rows lines its there.1 p g.1 c.1,
       )
 
@@ -228,8 +180,7 @@ module _ {Kind : Type 0} (judge : Judge Kind) where
             few = let n = length-map lines (λ line. map (cell_of judge line) group.rows)
                 in omega (arith, n, few.0);
             said = lines_sound group.rows lines found
-                (each_missing group.rows lines
-                (none_each (λ line. first_of (missing line) group.rows) lines there)) plain
+                (none_each (λ line. first_of (missing line) group.rows) lines there) plain
                 (in_lines_each (IsGood judge table fields) (tags_in group) fields good)
                 (in_lines_each IsClearField (tags_in group) fields clear);
           })
@@ -239,14 +190,12 @@ module _ {Kind : Type 0} (judge : Judge Kind) where
           AllByRecursion (λ item. missing_of fields item ≡ None) items → AllByRecursion
           IsPlainItem items → AllByRecursion (GroupSaid judge m) (flat_map groups_of items)
       groups_sound [] found grouped few there plain = tt
-      groups_sound (One row ∷ items) found grouped few there plain =
-          groups_sound items found.1 grouped.1 few.1 there.1 plain.1
-      groups_sound (Party role ∷ items) found grouped few there plain =
-          groups_sound items found.1 grouped.1 few.1 there.1 plain.1
       groups_sound (Lines group ∷ items) found grouped few there plain = (
         group_sound group found.0 grouped.0 few.0 there.0 plain.0,
         groups_sound items found.1 grouped.1 few.1 there.1 plain.1,
       )
+      groups_sound (item ∷ items) found grouped few there plain =
+          groups_sound items found.1 grouped.1 few.1 there.1 plain.1
 
       items_sound : (items : List (Item Kind)) → AllByRecursion Found items → AllByRecursion
           Looked items → AllByRecursion (GroupSaid judge m) (flat_map groups_of items) →
@@ -255,7 +204,8 @@ module _ {Kind : Type 0} (judge : Judge Kind) where
       items_sound [] found looked groups there stable = tt
       items_sound (One row ∷ items) found looked groups there stable =
           let P : Said → Type 0 = λ said. IsSaid judge after row said in (
-            subst P (sym looked.0.0) (one_sound row found.0.0 there.0 stable.0),
+            subst P (sym looked.0.0) (row_sound fields after row stable.0 clear
+                (row_is_said judge table fields row fields found.0.0 there.0 good)),
             items_sound items found.1 looked.1 groups there.1 stable.1,
           )
       items_sound (Party role ∷ items) found looked groups there stable =

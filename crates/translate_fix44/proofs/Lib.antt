@@ -1,20 +1,8 @@
-pub mod Asked
-pub mod ByType
-pub mod Checked
-pub mod CodeRead
-pub mod Codes
-pub mod DownFair
-pub mod Few
+pub mod Fair
 pub mod Go
-pub mod Judged
-pub mod KindsSay
 pub mod Known
 pub mod Put
-pub mod Read
-pub mod Refused
-pub mod Roles
 pub mod Sense
 pub mod Sound
 pub mod Tables
-pub mod UpFair
-pub mod Worked
+mod Worked

@@ -51,7 +51,7 @@ fn read<'f, 'a>(
 ///
 /// `NotSupported` for a type that is none of D, F, G and H; `Session` and `NoCounterpart` for the
 /// first fault; `NoMemory` for want of memory.
-#[tactic(auto, using(crate::proofs::Judged::of_request))]
+#[tactic(auto, using(crate::proofs::Put::of_request))]
 pub(crate) fn good_request<'s, 'a>(
     alloc: Global,
     tables: &RequestTables,

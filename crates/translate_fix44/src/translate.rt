@@ -45,7 +45,7 @@ impl Way {
 }
 
 /// Appends the content of FIX 5.0 SP2 of the request that stands for the fields of a body.
-#[tactic(auto, using(crate::proofs::Judged::of_source))]
+#[tactic(auto, using(crate::proofs::Put::of_source))]
 fn put_request(
     alloc: Global,
     tables: &RequestTables,
@@ -66,7 +66,7 @@ fn put_request(
 }
 
 /// Whether the request that stands for the fields of a body becomes one of FIX 5.0 SP2.
-#[tactic(auto, using(crate::proofs::Judged::of_source))]
+#[tactic(auto, using(crate::proofs::Put::of_source))]
 fn check_request(
     alloc: Global,
     tables: &RequestTables,
@@ -85,7 +85,7 @@ fn check_request(
 }
 
 /// Appends the content of FIX 4.4 of the report that stands for the fields of a body.
-#[tactic(auto, using(crate::proofs::Judged::of_report))]
+#[tactic(auto, using(crate::proofs::Put::of_report))]
 fn put_report(
     alloc: Global,
     tables: &ReportTables,
@@ -184,7 +184,7 @@ fn good_refusal<'s, 'a>(split: &'s Split<'a>) -> Result<&'s Fields<'a>, Fault>
 ///
 /// `Faulty` for the first fault of the body, exactly where it has one, and with
 /// `Fault::NotSupported` for any other type; `NoMemory` for want of memory.
-#[tactic(auto, using(crate::proofs::Refused::judged))]
+#[tactic(auto, using(crate::proofs::Put::of_refusal))]
 pub fn check_refusal(alloc: Global, body: &[u8]) -> Result<(), TranslateError>
     ensures ok { OnOk result (IsGoodRefusal refusal44 body.now) }
     ensures refused { IfErr result (IsFaultyRefusal refusal44 body.now) }
@@ -258,6 +258,7 @@ impl Translator44 {
     ///
     /// `Faulty` and `Lacking` as [`Translator44::translate`] has them; `NoMemory` for want of
     /// memory.
+    #[tactic(auto, using(crate::proofs::Fair::of_check))]
     pub fn check(&mut self, body: &[u8]) -> Result<(), TranslateError>
         ensures ok { OnOk result ((fields : List Field) × Goes up body.now fields) }
         ensures refused { IfErr result (IsRefusedByCheck body.now) }

@@ -1,7 +1,7 @@
 -- What is written of a sound message is read again as that message behind a header, whatever table
 -- the message is of.
-use Rattle.std.proofs.Common.{◌≡◌, ℕ, List, [], ◌∷◌, ◌++◌, map, Option, Some, None, Bool, true}
-use Rattle.std.proofs.Common.{false, Ok, refl, sym, ap, subst, ◌∙◌, codes}
+use Rattle.std.proofs.Common.{◌≡◌, ℕ, List, [], ◌∷◌, ◌++◌, map, Some, Bool, true, false, Ok, refl}
+use Rattle.std.proofs.Common.{sym, ap, subst, ◌∙◌, codes}
 use Rattle.std.specs.Prelude.{IfSome, unwrap_or, not, ◌&&◌, ◌||◌, ◌==◌, if◌then◌else◌}
 use Rattle.std.specs.Option.{option_map}
 use Rattle.std.specs.List.{AllByRecursion, flat_map, list_all}
@@ -11,31 +11,27 @@ use Rattle.typed_fields.specs.MonthYear.{read_month_year}
 use Rattle.std.specs.Result.{result_ok}
 use Rattle.value_kinds.specs.ValueKind as kinds
 use Rattle.value_kinds.specs.ValueKind.{spelling}
-use Rattle.message_tables.specs.declared.table_fault.TableFault.{TableFault}
 use Rattle.field_groups.specs.Field.{Field}
 use Rattle.message_tables.specs.Tables.{Verdict, Spells, Test, Stands, Is, Need, Required, Optional}
 use Rattle.message_tables.specs.Tables.{Lenient, Fixed, When, Row, Item, One, Party, Lines, Table}
-use Rattle.message_tables.specs.Tables.{Message, Cell, Said, Tag, Role, ◌>>=◌, value_at}
-use Rattle.message_tables.specs.Tables.{has_tag, flag_of, is_one_of, is_needed, holds, passes}
-use Rattle.message_tables.specs.Tables.{row_at, rows_in, rows_of, all_rows, said_at, is_listed}
-use Rattle.message_tables.specs.Tables.{says, text_of}
-use Rattle.message_tables.specs.FirstFault.{first_fault, message_in, message_of, unless}
+use Rattle.message_tables.specs.Tables.{Message, Cell, Said, Tag, Role, ◌>>=◌, value_at, has_tag}
+use Rattle.message_tables.specs.Tables.{flag_of, is_one_of, is_needed, holds, passes, row_at}
+use Rattle.message_tables.specs.Tables.{rows_in, all_rows, said_at, is_listed, says, text_of}
+use Rattle.message_tables.specs.FirstFault.{message_of}
 use Rattle.message_tables.specs.Content.{content, cell_fields, item_fields}
 use Rattle.row_values.specs.Kinds.{Kind, Value, Byte, DayOf, MonthBeside, TimeBeside, Version}
 use Rattle.row_values.specs.Kinds.{judge, verdict_of, filled, month_beside, is_at_close, counted}
 use Rattle.row_values.specs.Kinds.{in_month}
 use Rattle.first_faults.specs.Faults.{told}
 use Rattle.sound_laws.specs.Sound.{IsSaid, IsItem, IsSound, places_of}
-use Rattle.sound_laws.proofs.Each.{are_apart, both, either, not_true, same_number, each_part}
-use Rattle.sound_laws.proofs.Each.{each_joined, each_front}
-use Rattle.sound_laws.proofs.Lookups.{places_apart}
-use Rattle.sound_laws.proofs.Stages.{AreOf, item_tags, is_other}
+use Rattle.sound_laws.proofs.Each.{both, each_by, each_front, each_joined, each_map, each_mapped}
+use Rattle.sound_laws.proofs.Each.{each_part, each_two, either, not_true, one_of}
+use Rattle.sound_laws.proofs.Stages.{AreOf, each_of, item_tags, is_other}
 use Rattle.sound_laws.proofs.Found.{FoundAt, items_of, value_behind}
-use Rattle.sound_laws.proofs.Values.{cells_in}
+use Rattle.sound_laws.proofs.ContentAgain.{read_whole}
 use Rattle.sound_laws.proofs.ReadAgain as again
-use Rattle.sound_laws.proofs.ReadAgain.{IsTable, cells_by_places}
 use Rattle.sound_laws.proofs.TableFits as fits
-use Rattle.sound_laws.proofs.TableFits.{table_fits}
+use Rattle.sound_laws.proofs.TableFits.{AreRows, table_fits}
 
 -- ---- the cells of a header
 
@@ -55,14 +51,12 @@ module _ (value : ℕ → Said) where
       → said_at (head_cells rows ++ cells) (Tag tag) ≡ value tag
   said_head [] cells tag h = absurd cc
   said_head (row ∷ rows) cells tag h =
-      by (row.tag == tag) refl h (λ later. said_head rows cells tag later)
-    where
-      by : (b : Bool) → (row.tag == tag) ≡ b → (b || is_one_of (tags_in rows) tag) ≡ true
-          → (is_one_of (tags_in rows) tag ≡ true
-          → said_at (head_cells rows ++ cells) (Tag tag) ≡ value tag)
-          → (if b then value row.tag else said_at (head_cells rows ++ cells) (Tag tag)) ≡ value tag
-      by true e h later = ap value (eqb-true row.tag tag e)
-      by false e h later = later h
+      elim (row.tag == tag) as (λ b. (row.tag == tag) ≡ b
+      → (b || is_one_of (tags_in rows) tag) ≡ true
+      → (if b then value row.tag else said_at (head_cells rows ++ cells) (Tag tag)) ≡ value tag) [
+        | true ↦ λ e h. ap value (eqb-true row.tag tag e)
+        | false ↦ λ e h. said_head rows cells tag h
+      ] refl h
 
   said_behind : (rows : List (Row Kind)) (cells : List Cell) (tag : ℕ)
       → is_one_of (tags_in rows) tag ≡ false
@@ -146,30 +140,15 @@ module _ (table : Table Kind) (value : ℕ → Said) (r : Message) where
   abbrev pub items_behind : Bool
   items_behind = list_all item_behind table.items
 
-  head_said : (rows : List (Row Kind)) (cells : List Cell)
-      → (AllByRecursion (λ row. IsSaid judge all row (value row.tag)) rows)
-      → ((tag : ℕ) → is_one_of (tags_in rows) tag ≡ true
-      → said_at whole.cells (Tag tag) ≡ value tag)
-      → AllByRecursion (IsItem judge all whole) (items_in rows)
-  head_said [] cells said at = tt
-  head_said (row ∷ rows) cells said at = (
-    subst (λ (s : Said). IsSaid judge all row s)
-        (sym (at row.tag (first_is (row.tag == row.tag) (same_number row.tag)))) said.0,
-    head_said rows cells said.1 (λ tag later. at tag (more (row.tag == tag) later)),
-  )
-    where
-      first_is : (b : Bool) → b ≡ true → (b || is_one_of (tags_in rows) row.tag) ≡ true
-      first_is true h = refl
-      first_is false h = absurd cc
-
-      more : (b : Bool) {c : Bool} → c ≡ true → (b || c) ≡ true
-      more true h = refl
-      more false h = h
-
   module _ (ok : items_behind ≡ true) (is_head : IsHead) where
     header_said : AllByRecursion (IsItem judge all whole) front
-    header_said = head_said table.header r.cells is_head
-        (λ tag there. said_head value table.header r.cells tag there)
+    header_said = each_mapped (IsItem judge all whole) (λ row. One row) table.header
+        (each_two (λ row. IsSaid judge all row (value row.tag)) _
+        (λ row. IsItem judge all whole (One row))
+        (λ row said there. subst (λ (s : Said). IsSaid judge all row s)
+        (sym (said_head value table.header r.cells row.tag there.0)) said) table.header is_head
+        (each_map (λ item. AllByRecursion (λ t. is_one_of head_tags t ≡ true) (item_tags item))
+        (λ row. One row) table.header (each_part _ item_tags front (each_of head_tags))))
 
     of_head : AreOf head_tags head
     of_head = items_of judge all whole front header_said
@@ -178,22 +157,32 @@ module _ (table : Table Kind) (value : ℕ → Said) (r : Message) where
         → said_at whole.cells (Tag tag) ≡ said_at r.cells (Tag tag)
     at_behind tag h = said_behind value table.header r.cells tag (not_true _ h)
 
-    same_fields : (items : List (Item Kind)) → list_all item_behind items ≡ true
-        → flat_map (item_fields whole) items ≡ flat_map (item_fields r) items
-    same_fields [] h = refl
-    same_fields (One row ∷ items) h =
+    -- what the message says for its table is what is said behind the header
+    places_same : (items : List (Item Kind)) → list_all item_behind items ≡ true
+        → AllByRecursion (λ p. said_at whole.cells p ≡ said_at r.cells p) (flat_map places_of items)
+    places_same [] h = tt
+    places_same (One row ∷ items) h =
         let p = both (item_behind (One row)) (list_all item_behind items) h in
         let q = both (is_behind row.tag) (need_behind row.need && kind_behind row.kind) p.0 in
-        let here = at_behind row.tag q.0 in
-        let rest = same_fields items p.1 in
-        λ i. cell_fields (Tag row.tag, here i) ++ rest i
-    same_fields (Party role ∷ items) h = same_fields items h
-    same_fields (Lines group ∷ items) h =
-        ap (λ (fs : List Field). item_fields r (Lines group) ++ fs) (same_fields items h)
+        (at_behind row.tag q.0, places_same items p.1)
+    places_same (Party role ∷ items) h =
+        (role_behind value table.header r.cells role, places_same items h)
+    places_same (Lines group ∷ items) h = places_same items h
+
+    same_fields : (items : List (Item Kind))
+        → AllByRecursion (λ p. said_at whole.cells p ≡ said_at r.cells p) (flat_map places_of items)
+        → flat_map (item_fields whole) items ≡ flat_map (item_fields r) items
+    same_fields [] same = refl
+    same_fields (One row ∷ items) same =
+        λ i. cell_fields (Tag row.tag, same.0 i) ++ same_fields items same.1 i
+    same_fields (Party role ∷ items) same = same_fields items same.1
+    same_fields (Lines group ∷ items) same =
+        ap (λ (fs : List Field). item_fields r (Lines group) ++ fs) (same_fields items same)
 
     pub all_is : all ≡ head ++ body
     all_is = flat_map-append (item_fields whole) front table.items
-        ∙ ap (λ (fs : List Field). head ++ fs) (same_fields table.items ok)
+        ∙ ap (λ (fs : List Field). head ++ fs)
+        (same_fields table.items (places_same table.items ok))
 
     value_same : (tag : ℕ) → is_behind tag ≡ true → value_at tag all ≡ value_at tag body
     value_same tag h = ap (value_at tag) all_is
@@ -218,8 +207,7 @@ module _ (table : Table Kind) (value : ℕ → Said) (r : Message) where
         let rest = tests_same tests p.1 in
         λ i. here i && rest i
 
-    holds_same : (condition : List (List Test))
-        → list_all (list_all test_behind) condition ≡ true
+    holds_same : (condition : List (List Test)) → list_all (list_all test_behind) condition ≡ true
         → holds condition all ≡ holds condition body
     holds_same [] h = refl
     holds_same (tests ∷ more) h =
@@ -286,94 +274,46 @@ module _ (table : Table Kind) (value : ℕ → Said) (r : Message) where
     -- ---- what is read
 
     module _ (fit : table_fits table front ≡ true) (sound : IsSound judge table r) where
-      is_table : IsTable judge table whole front
-      is_table =
+      rows_found : AllByRecursion (AreRows table whole front) front
+      rows_found =
           let P : Row Kind → Type 0 = λ row. row_at row.tag (all_rows table) ≡ Some row in
           let rows = each_front P table.header (rows_in table)
           (fits.rows_are table whole front fit) in
-          fits.is_table table whole front fit
-          (each_part P rows_of front (as_rows table.header rows))
-        where
-          as_rows : (rows : List (Row Kind))
-              → AllByRecursion (λ row. row_at row.tag (all_rows table) ≡ Some row) rows
-              → AllByRecursion (λ row. row_at row.tag (all_rows table) ≡ Some row)
-              (flat_map rows_of (items_in rows))
-          as_rows [] h = tt
-          as_rows (row ∷ rows) h = (h.0, as_rows rows h.1)
+          each_mapped (AreRows table whole front) (λ row. One row) table.header
+          (each_by P _ (λ row h. (h, tt)) table.header rows)
 
       all_said : AllByRecursion (IsItem judge all whole) its
       all_said = each_joined (IsItem judge all whole) front table.items header_said
           (items_moved table.items ok sound.items)
 
-      none : first_fault judge table all ≡ None
-      none = again.no_fault judge table whole front is_table all_said
-
-      counts : are_apart (map (λ g. g.0) r.groups) ≡ true
-      counts = ap are_apart sound.counts ∙ fits.counts_are_apart table whole front fit
-
-      cells_same : (items : List (Item Kind)) → list_all item_behind items ≡ true
-          → flat_map (cells_in judge all whole) items
-          ≡ map (λ p. (p, said_at r.cells p)) (flat_map places_of items)
-      cells_same [] h = refl
-      cells_same (One row ∷ items) h =
-          let p = both (item_behind (One row)) (list_all item_behind items) h in
-          let q = both (is_behind row.tag) (need_behind row.need && kind_behind row.kind) p.0 in
-          let here = at_behind row.tag q.0 in
-          let rest = cells_same items p.1 in
-          λ i. (Tag row.tag, here i) ∷ rest i
-      cells_same (Party role ∷ items) h =
-          let here = role_behind value table.header r.cells role in
-          let rest = cells_same items h in
-          λ i. (Role role, here i) ∷ rest i
-      cells_same (Lines group ∷ items) h = cells_same items h
-
       -- what a row of the header says is found
-      found_head : (rows : List (Row Kind)) (others : List (Item Kind)) (tag : ℕ)
-          → is_one_of (tags_in rows) tag ≡ true
+      found_head : (rows : List (Row Kind)) (others : List (Item Kind))
           → AllByRecursion (FoundAt judge all whole all) (items_in rows ++ others)
-          → value_at tag all ≡ said_at whole.cells (Tag tag)
-      found_head [] others tag h found = absurd cc
-      found_head (row ∷ rows) others tag h found =
-          by (row.tag == tag) refl h (λ later. found_head rows others tag later found.1)
-        where
-          by : (b : Bool) → (row.tag == tag) ≡ b → (b || is_one_of (tags_in rows) tag) ≡ true
-              → (is_one_of (tags_in rows) tag ≡ true
-              → value_at tag all ≡ said_at whole.cells (Tag tag))
-              → value_at tag all ≡ said_at whole.cells (Tag tag)
-          by true e h later =
-              let P : ℕ → Type 0 = λ t. value_at t all ≡ said_at whole.cells (Tag t) in
-              subst P (eqb-true row.tag tag e) found.0
-          by false e h later = later h
+          → AllByRecursion (λ t. value_at t all ≡ said_at whole.cells (Tag t)) (tags_in rows)
+      found_head [] others found = tt
+      found_head (row ∷ rows) others found = (found.0, found_head rows others found.1)
 
       resend_found : is_one_of head_tags 97 ≡ true → value_at 97 all ≡ value 97
       resend_found there =
-          found_head table.header table.items 97 there
-          (again.found judge table whole front is_table all_said)
+          one_of (λ t. value_at t all ≡ said_at whole.cells (Tag t)) head_tags
+          (found_head table.header table.items (again.found judge table whole front
+          (fits.is_table table whole front fit rows_found) all_said)) 97 there
           ∙ said_head value table.header r.cells 97 there
-
-      same_message : is_one_of head_tags 97 ≡ true
-          → unwrap_or (option_map flag_of (value 97)) false ≡ r.resend
-          → message_in judge table all ≡ r
-      same_message there flag =
-          let cells = again.same_cells judge table whole front is_table all_said counts sound.counts
-          ∙ cells_same table.items ok ∙ cells_by_places r.cells (flat_map places_of table.items)
-          (ap places_apart sound.places ∙ fits.places_are_apart table whole front fit)
-          sound.places in
-          let lines =
-          again.same_groups judge table whole front is_table all_said counts sound.counts in
-          let letter = sym sound.letter in
-          let resend = ap (λ (v : Said). unwrap_or (option_map flag_of v) false)
-          (resend_found there) ∙ flag in
-          λ i. record { letter = letter i; resend = resend i; cells = cells i; groups = lines i }
 
       -- THE MESSAGE IS READ AGAIN behind its header.
       pub read_behind : is_one_of head_tags 97 ≡ true
           → unwrap_or (option_map flag_of (value 97)) false ≡ r.resend
           → told (message_of judge table (head ++ body)) ≡ Ok r
-      unfolding message_of
       read_behind there flag =
-          let P : List Field → Type 0 = λ fs. told
-          (unless (first_fault judge table fs) (message_in judge table fs)) ≡ Ok r in
-          subst P all_is (
-          ap (λ (f : Option TableFault). told (unless f (message_in judge table all))) none
-          ∙ ap (λ (x : Message). Ok x) (same_message there flag))
+          subst (λ (fs : List Field). told (message_of judge table fs) ≡ Ok r) all_is
+          (read_whole table front whole.cells r (record {
+            fit = fit;
+            rows = rows_found;
+            letter = sound.letter;
+            places = sound.places;
+            counts = sound.counts;
+            said = all_said;
+            same = places_same table.items ok;
+            resend = ap (λ (v : Said). unwrap_or (option_map flag_of v) false)
+                (resend_found there) ∙ flag;
+          }))

@@ -1,19 +1,15 @@
 -- The body that is written for fields and a content.
-use Rattle.std.proofs.Common.{◌≡◌, ◌-◌, ◌≤◌, ◌<◌, ℕ, List, [], ◌∷◌, ◌++◌, length, refl, sym, ap}
-use Rattle.std.proofs.Common.{◌∙◌, append_assoc, length-append, subst, arith, Result, Ok, Err}
+use Rattle.std.proofs.Common.{◌≡◌, ◌-◌, ◌≤◌, ◌<◌, ℕ, List, [], ◌∷◌, ◌++◌, length, sym, ap, ◌∙◌}
+use Rattle.std.proofs.Common.{append_assoc, length-append, subst, arith, Result, Ok, Err}
 use Rattle.std.specs.Prelude.{OnOk, IfErr}
 use Rattle.std.proofs.lemmas.List.{append-nil}
 use Rattle.std.specs.List.{flat_map}
 use Rattle.field_groups.specs.Field.{Field, body_of, field_bytes}
+use Rattle.row_values.proofs.Contents.{body-append}
 use Rattle.translation.specs.declared.error.TranslateError.{TranslateError}
 use Rattle.translation.specs.declared.error.TranslateError.TheVariants as errors
 use Rattle.translation.specs.Header.{type_of, carried, carried_field, carried_tags, with_content}
 use Rattle.translation.specs.Writing.{put, AreWithin, IsTooMuch, IsWritten, IsUnwritten}
-
-pub body_joined : (xs ys : List Field) → body_of (xs ++ ys) ≡ body_of xs ++ body_of ys
-body_joined [] ys = refl
-body_joined (x ∷ xs) ys = ap (λ (bytes : List ℕ). field_bytes x ++ bytes) (body_joined xs ys)
-    ∙ sym (append_assoc (field_bytes x) (body_of xs) (body_of ys))
 
 put_is : (f : ℕ → List Field) (start : List ℕ) (tags : List ℕ)
     → put f start tags ≡ start ++ body_of (flat_map f tags)
@@ -21,7 +17,7 @@ put_is f start [] = sym (append-nil start)
 put_is f start (tag ∷ tags) =
     put_is f (start ++ body_of (f tag)) tags
     ∙ append_assoc start (body_of (f tag)) (body_of (flat_map f tags))
-    ∙ ap (λ (bytes : List ℕ). start ++ bytes) (sym (body_joined (f tag) (flat_map f tags)))
+    ∙ ap (λ (bytes : List ℕ). start ++ bytes) (sym (body-append (f tag) (flat_map f tags)))
 
 -- the header behind its type
 pub head_is : (fields : List Field) (old head type : List ℕ)
@@ -43,7 +39,7 @@ module _ (fields content : List Field) (old head up : List ℕ) (none : old ≡ 
       up_is ∙ ap (λ (bytes : List ℕ). bytes ++ body_of content) front
       ∙ append_assoc (field_bytes (35, type_of fields)) (body_of (carried fields)) (body_of content)
       ∙ ap (λ (bytes : List ℕ). field_bytes (35, type_of fields) ++ bytes)
-      (sym (body_joined (carried fields) content))
+      (sym (body-append (carried fields) content))
 
   -- what stands behind the head is the content
   behind : length up - length head ≡ length (body_of content)
@@ -70,24 +66,16 @@ module _ (fields content : List Field) (old head up : List ℕ) (none : old ≡ 
   is_unwritten (errors.Lacking tag) much = absurd (let e = much.0 in cc)
 
   module _ (head_length up_length : ℕ) (head_long : head_length ≡ length head)
-      (up_long : up_length ≡ length up) (r : Result (Unit {0}) TranslateError) where
+      (up_long : up_length ≡ length up) where
     -- what is as long as it may be, and what is too long
-    pub written : OnOk r (AreWithin (up_length - head_length) up_length)
+    pub written : (r : Result (Unit {0}) TranslateError)
+        → OnOk r (AreWithin (up_length - head_length) up_length)
         → OnOk r (IsWritten fields content up)
-    written = by r
-      where
-        by : (r : Result (Unit {0}) TranslateError)
-            → OnOk r (AreWithin (up_length - head_length) up_length)
-            → OnOk r (IsWritten fields content up)
-        by (Ok done) within = is_written (rw (head_long, up_long) at within)
-        by (Err error) within = tt
+    written (Ok done) within = is_written (rw (head_long, up_long) at within)
+    written (Err error) within = tt
 
-    pub unwritten : IfErr r (IsTooMuch (up_length - head_length) up_length)
+    pub unwritten : (r : Result (Unit {0}) TranslateError)
+        → IfErr r (IsTooMuch (up_length - head_length) up_length)
         → IfErr r (IsUnwritten fields content)
-    unwritten = by r
-      where
-        by : (r : Result (Unit {0}) TranslateError)
-            → IfErr r (IsTooMuch (up_length - head_length) up_length)
-            → IfErr r (IsUnwritten fields content)
-        by (Ok done) much = tt
-        by (Err error) much = is_unwritten error (rw (head_long, up_long) at much)
+    unwritten (Ok done) much = tt
+    unwritten (Err error) much = is_unwritten error (rw (head_long, up_long) at much)

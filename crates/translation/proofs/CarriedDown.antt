@@ -1,6 +1,6 @@
 -- A header that is carried down: its moments are cut, and all else is as it stands.
-use Rattle.std.proofs.Common.{◌≡◌, ◌≤◌, ℕ, List, [], ◌∷◌, Bool, true, false, Option, Some, None}
-use Rattle.std.proofs.Common.{length, refl, sym, ap, subst, ◌∙◌}
+use Rattle.std.proofs.Common.{◌≡◌, ◌≤◌, ℕ, List, [], ◌∷◌, true, false, Option, Some, None, length}
+use Rattle.std.proofs.Common.{refl, sym, ap, subst, ◌∙◌}
 use Rattle.std.proofs.lemmas.List.{take_all}
 use Rattle.std.specs.Prelude.{◌==◌, ◌&&◌, ◌||◌, Ok, if◌then◌else◌}
 use Rattle.std.proofs.lemmas.Bool.{eqb-true}
@@ -20,28 +20,30 @@ use Rattle.translation.specs.Header.{carried_down, head_down, type_of}
 use Rattle.translation.proofs.CarriedHeader.{IsOwn, IsOwnHead}
 use Rattle.translation.proofs.Writable.{IsType, One as OneByte}
 
+-- a value is carried as it stands, or cut
+by_cut : (P : List ℕ → Type 0) (tag : ℕ) (value : List ℕ) → P (cut_text value) → P value
+    → P (carried_down tag value)
+by_cut P tag value cut whole =
+    elim ((tag == 52 || tag == 122) && is_ok (read_fine value)) as (λ b.
+    P (if b then cut_text value else value)) [ true ↦ cut | false ↦ whole ]
+
 -- a value that is short is carried as it stands
 pub short_stays : (tag : ℕ) (value : List ℕ) → length value ≤ 21 → value ≡ carried_down tag value
-short_stays tag value short = by ((tag == 52 || tag == 122) && is_ok (read_fine value))
-  where
-    by : (b : Bool) → value ≡ (if b then cut_text value else value)
-    by true = sym (take_all 21 value short)
-    by false = refl
+short_stays tag value short = by_cut (λ v. value ≡ v) tag value (sym (take_all 21 value short)) refl
 
 -- the first value of a tag
 pub value_down : (tag : ℕ) (fields : List Field)
     → value_at tag (head_down fields) ≡ option_map (carried_down tag) (value_at tag fields)
 value_down tag [] = refl
-value_down tag (field ∷ fields) = by (field.0 == tag) refl (value_down tag fields)
-  where
-    by : (b : Bool) → (field.0 == tag) ≡ b
-        → value_at tag (head_down fields) ≡ option_map (carried_down tag) (value_at tag fields)
-        → option_map (λ (f : Field). f.1) (if b then Some (field.0, carried_down field.0 field.1)
-        else find (λ f. f.0 == tag) (head_down fields))
-        ≡ option_map (carried_down tag) (option_map (λ (f : Field). f.1)
-        (if b then Some field else find (λ f. f.0 == tag) fields))
-    by true e later = ap (λ (t : ℕ). Some (carried_down t field.1)) (eqb-true field.0 tag e)
-    by false e later = later
+value_down tag (field ∷ fields) =
+    elim (field.0 == tag) as (λ b. (field.0 == tag) ≡ b
+    → option_map (λ (f : Field). f.1) (if b then Some (field.0, carried_down field.0 field.1)
+    else find (λ f. f.0 == tag) (head_down fields))
+    ≡ option_map (carried_down tag) (option_map (λ (f : Field). f.1)
+    (if b then Some field else find (λ f. f.0 == tag) fields))) [
+      | true ↦ λ e. ap (λ (t : ℕ). Some (carried_down t field.1)) (eqb-true field.0 tag e)
+      | false ↦ λ e. value_down tag fields
+    ] refl
 
 pub none_down : (tag : ℕ) (fields : List Field) → None ≡ value_at tag fields
     → None ≡ value_at tag (head_down fields)
@@ -58,15 +60,13 @@ pub type_some : (fields : List Field) (tag : ℕ) (value carried : List ℕ)
     → Some (tag, value) ≡ slice_get fields 0 → carried ≡ carried_down tag value
     → carried ≡ type_of (head_down fields)
 type_some [] tag value carried e is = absurd cc
-type_some (field ∷ fields) tag value carried e is =
-    is ∙ ap (λ (said : Option Field). by said) e
+type_some (field ∷ fields) tag value carried e is = is ∙ ap (λ (said : Option Field). by said) e
   where
     by : Option Field → List ℕ
     by None = []
     by (Some f) = carried_down f.0 f.1
 
-pub type_none : (fields : List Field) → None ≡ slice_get fields 0
-    → [] ≡ type_of (head_down fields)
+pub type_none : (fields : List Field) → None ≡ slice_get fields 0 → [] ≡ type_of (head_down fields)
 type_none [] e = refl
 type_none (field ∷ fields) e = absurd cc
 
@@ -77,21 +77,12 @@ unfolding has_pattern
 type_down [] is = refl
 type_down (field ∷ fields) (OneByte byte other is) =
     let P : List ℕ → Type 0 = λ v. carried_down field.0 v ≡ v in
-    subst P (sym is) (by (field.0 == 52 || field.0 == 122))
-  where
-    by : (b : Bool) → (if b && is_ok (read_fine (byte ∷ [])) then cut_text (byte ∷ [])
-        else byte ∷ []) ≡ byte ∷ []
-    by true = refl
-    by false = refl
+    subst P (sym is) (by_cut (λ v. v ≡ byte ∷ []) field.0 (byte ∷ []) refl refl)
 
 -- ---- no SOH
 
 clear_down : (tag : ℕ) (value : List ℕ) → IsClear value → IsClear (carried_down tag value)
-clear_down tag value h = by ((tag == 52 || tag == 122) && is_ok (read_fine value))
-  where
-    by : (b : Bool) → IsClear (if b then cut_text value else value)
-    by true = clear_front 21 value h
-    by false = h
+clear_down tag value h = by_cut IsClear tag value (clear_front 21 value h) h
 
 pub head_clear : (fields : List Field) → AllByRecursion (IsClearField judge) fields
     → AllByRecursion (IsClearField judge) (head_down fields)
@@ -107,12 +98,8 @@ unfolding spelling
 own_moment tag None own = tt
 own_moment tag (Some []) own = absurd (let e = own.0 in cc)
 own_moment tag (Some (b ∷ bs)) own =
-    (by ((tag == 52 || tag == 122) && is_ok (read_fine (b ∷ bs))), clear_down tag (b ∷ bs) own.1)
-  where
-    by : (c : Bool) → spelling Filled (if c then cut_text (b ∷ bs) else b ∷ bs)
-        ≡ Ok (Some (if c then cut_text (b ∷ bs) else b ∷ bs))
-    by true = refl
-    by false = refl
+    by_cut (λ v. (spelling Filled v ≡ Ok (Some v)) × IsClear v) tag (b ∷ bs)
+    (refl, clear_front 21 (b ∷ bs) own.1) (refl, own.1)
 
 same_values : (said : Said) → option_map (λ (v : List ℕ). v) said ≡ said
 same_values None = refl

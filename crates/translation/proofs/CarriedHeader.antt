@@ -61,8 +61,7 @@ pub record HasHeader (table : Table Kind) : Type 0 where
 spells_own : (kind : ValueKind) (v : List ℕ) (tag : ℕ) (s : Spelling)
     → is_own kind ≡ true → spelling kind v ≡ s
     → wrong (tag, allowed Optional (mark_of (verdict_of s))) ≡ None
-    → beyond (tag, allowed Optional (mark_of (verdict_of s))) ≡ None
-    → spelling kind v ≡ Ok (Some v)
+    → beyond (tag, allowed Optional (mark_of (verdict_of s))) ≡ None → spelling kind v ≡ Ok (Some v)
 spells_own kind v tag (Ok (Some text)) own e w b =
     e ∙ ap (λ (x : List ℕ). Ok (Some x)) (own_bytes kind v own text e)
 spells_own kind v tag (Ok None) own e w b = absurd cc
@@ -74,17 +73,17 @@ module _ (table : Table Kind) (fields : List Field) (good : first_fault judge ta
       → row_at tag (all_rows table) ≡ Some (row Optional tag kind)
       → IsOwn kind (value_at tag fields)
   unfolding judge
-  head_own kind tag own bare its = by (value_at tag fields) refl
-    where
-      by : (value : Said) → value_at tag fields ≡ value → IsOwn kind value
-      by None at = tt
-      by (Some v) at =
-          let g = held (IsGood judge table fields) tag fields v at
-          (all_good judge table fields good) in
-          let w = rw its at g.0 in let b = rw its at g.1 in (
-            spells_own kind v tag (spelling kind v) own refl w b,
-            held (IsClearField judge) tag fields v at clear bare,
-          )
+  head_own kind tag own bare its =
+      elim (value_at tag fields) as (λ value. value_at tag fields ≡ value → IsOwn kind value) [
+        | None ↦ λ e. tt
+        | Some v ↦ λ e.
+            let g = held (IsGood judge table fields) tag fields v e
+            (all_good judge table fields good) in
+            let w = rw its at g.0 in let b = rw its at g.1 in (
+              spells_own kind v tag (spelling kind v) own refl w b,
+              held (IsClearField judge) tag fields v e clear bare,
+            )
+      ] refl
 
   -- THE HEADER of fields at no fault
   pub head_is_own : (msg_type : List ℕ) → IsType msg_type → HasHeader table

@@ -31,18 +31,15 @@ module _ (d : Direction) where
 
   module _ (fields good : List Field) (stopped : Option SplitFault) (same : good ≡ fields)
       (whole : stopped ≡ None) (r : Result (Unit {0}) TranslateError) where
+    of_same : (P : List Field → Option SplitFault → Type 0) → P good None → P fields stopped
+    of_same P h = subst (P fields) (sym whole) (subst (λ (f : List Field). P f None) same h)
+
     pub appends_of : (before after : List ℕ) → OnOk r (Appends d good None before after)
         → OnOk r (Appends d fields stopped before after)
-    appends_of before after h =
-        let P : List Field → Type 0 = λ f. OnOk r (Appends d f None before after) in
-        let Q : Option SplitFault → Type 0 = λ s. OnOk r (Appends d fields s before after) in
-        subst Q (sym whole) (subst P same h)
+    appends_of before after = of_same (λ f s. OnOk r (Appends d f s before after))
 
     pub stays_of : IfErr r (StayBack d good None) → IfErr r (StayBack d fields stopped)
-    stays_of h =
-        let P : List Field → Type 0 = λ f. IfErr r (StayBack d f None) in
-        let Q : Option SplitFault → Type 0 = λ s. IfErr r (StayBack d fields s) in
-        subst Q (sym whole) (subst P same h)
+    stays_of = of_same (λ f s. IfErr r (StayBack d f s))
 
   module _ (fields : List Field) (stopped : Option SplitFault) where
     -- what is appended makes no body shorter

@@ -60,8 +60,7 @@ module _ (d : Direction) where
   module _ (body : List ℕ) where
     -- the outcome of a body that goes, by whether its translation fits
     pub gone_is : (fields : List Field) (r : IsRead d body fields) (w : Message)
-        → d.goes r.message ≡ Ok w → (b : Bool)
-        → fits (d.head fields) (d.content r.message w) ≡ b
+        → d.goes r.message ≡ Ok w → (b : Bool) → fits (d.head fields) (d.content r.message w) ≡ b
         → framed_if b (others d fields r.message w) ≡ outcome fields None
     gone_is fields r w goes b e =
         sym (ap (outcome_of fields) r.read ∙ ap (of_gone fields r.message) goes
@@ -101,8 +100,7 @@ module _ (d : Direction) where
       fields = l.fields;
       stopped = None;
       split = l.read.split;
-      is = sym (ap (outcome_of l.fields) l.read.read
-          ∙ ap (of_gone l.fields l.read.message) l.lack);
+      is = sym (ap (outcome_of l.fields) l.read.read ∙ ap (of_gone l.fields l.read.message) l.lack);
     }
     is_told (Err errors.TooLong) t = record {
       fields = t.fields;

@@ -11,7 +11,7 @@ use Rattle.field_groups.proofs.Plain.{plain_again}
 use Rattle.message_tables.specs.Tables.{Tag, value_at}
 use Rattle.message_tables.specs.Content.{cell_fields}
 use Rattle.row_values.specs.Kinds as row_kinds
-use Rattle.sound_laws.proofs.Each.{both, not_true, each_joined}
+use Rattle.sound_laws.proofs.Each.{all_true, both, each_by, each_joined, each_whole, not_true}
 use Rattle.sound_laws.proofs.Good.{held}
 use Rattle.sound_laws.proofs.PlainFields.{is_good_tag, Plains, AreFew, plain_field, cell_length}
 use Rattle.sound_laws.proofs.PlainFields.{all_of, clear_fields}
@@ -37,11 +37,9 @@ carried_plain tag fields good clear = by (value_at tag fields) refl
 carried_all : (tags : List ℕ) (fields : List Field)
     → list_all is_good_tag tags ≡ true → AllByRecursion (IsClearField row_kinds.judge) fields →
     Plains (flat_map (carried_field fields) tags)
-carried_all [] fields good clear = tt
-carried_all (tag ∷ tags) fields good clear =
-    let g = both (is_good_tag tag) (list_all is_good_tag tags) good in
-    each_joined IsPlainField (carried_field fields tag) (flat_map (carried_field fields) tags)
-    (carried_plain tag fields g.0 clear) (carried_all tags fields g.1 clear)
+carried_all tags fields good clear = each_whole IsPlainField (carried_field fields) tags
+    (each_by (λ tag. is_good_tag tag ≡ true) _ (λ tag good. carried_plain tag fields good clear)
+    tags (all_true is_good_tag tags good))
 
 carried_length : (tags : List ℕ) (fields : List Field)
     → length (flat_map (carried_field fields) tags) ≤ length tags

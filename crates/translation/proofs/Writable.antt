@@ -37,8 +37,7 @@ one_byte : (byte : ℕ) (fields : List Field)
     → (byte ≡ 1 → ⊥) → IsWritable (body_of ((35, byte ∷ []) ∷ fields))
 unfolding field_bytes digits
 one_byte byte fields other = record {
-  begins =
-      refl;
+  begins = refl;
   has_type = other;
   ends = last_byte (35, byte ∷ []) fields;
   least = omega arith;

@@ -26,6 +26,7 @@ const MILLIS: usize = 21;
 
 /// What is carried of a value on the way down. One that is no longer than a moment to its
 /// milliseconds has nothing to be cut.
+#[inline(always)]
 #[tactic(auto, using(crate::proofs::CarriedDown::short_stays))]
 fn carried_down(tag: u32, value: &[u8]) -> &[u8]
     ensures { result.now ≡ carried_down tag value.now }
@@ -63,6 +64,7 @@ impl<'f, 'a> HeadDown<'f, 'a> {
 impl<'f, 'a> Lookup for HeadDown<'f, 'a> {
     ghost fields = { λ head. head_down head.fields.now };
 
+    #[inline(always)]
     fn value(&self, tag: u32) -> Option<&[u8]> {
         match self.fields.value(tag) {
             None => None,

@@ -2,7 +2,7 @@
 use Rattle.std.proofs.Common.{◌≡◌, ◌==◌, ◌&&◌, not, if◌then◌else◌, ℕ, zero, suc, ◌+◌, ◌-◌, ◌*◌, ◌/◌}
 use Rattle.std.proofs.Common.{◌%◌, ◌^◌, ◌<◌, ◌≤◌, nat_le, Bool, true, false, List, [], ◌∷◌, ◌++◌}
 use Rattle.std.proofs.Common.{length, take, drop, replicate, Ok, refl, sym, ap, ◌∙◌, arith, ℤ, pos}
-use Rattle.std.proofs.Common.{negsuc, unsigned_abs, subst}
+use Rattle.std.proofs.Common.{negsuc, unsigned_abs, subst, get_or}
 use Rattle.std.specs.Char.{is_ascii_digit}
 use Rattle.std.specs.Fmt.{decimal}
 use Rattle.std.specs.Int.{is_negative}
@@ -25,6 +25,7 @@ use Rattle.typed_fields.specs.Laws.{ReadsBack, IsPlain, IsStable}
 use Rattle.typed_fields.proofs.DigitsLemmas.{both_true, number_of-append, number_of-lt}
 use Rattle.typed_fields.proofs.DigitsLemmas.{are_digits-append, are_digits-take, are_digits-drop}
 use Rattle.typed_fields.proofs.DigitsLemmas.{are_digits-leading, are_digits-trailing}
+use Rattle.typed_fields.proofs.DigitsLemmas.{trailing_other}
 use Rattle.typed_fields.proofs.SpellingLemmas.{judged_ok, number_of_first, zero_padded-number_of}
 use Rattle.typed_fields.proofs.SpellingLemmas.{digit_bounds, power_some, length-zero_padded}
 use Rattle.typed_fields.proofs.SpellingLemmas.{are_digits-zero_padded, number_of-zero_padded}
@@ -560,37 +561,41 @@ one_kept (c ∷ []) e = by (c == 48) refl
     by false is = refl
 one_kept (c ∷ d ∷ ds) e = absurd (omega (arith, e))
 
-pub leads_kept : (w : List ℕ) → 0 < length w → length (without_leading_zeros w) ≡ length w
+pub leads_kept : (w : List ℕ) → 0 < length w → not (get_or w 0 0 == 48) ≡ true
     → or_zero (without_leading_zeros w) ≡ w
 unfolding without_leading_zeros
-leads_kept [] some e = absurd (omega (arith, some))
-leads_kept (c ∷ cs) some e = by (c == 48) (leading_shorter cs) e
+leads_kept [] some other = absurd (omega (arith, some))
+leads_kept (c ∷ cs) some other = by (c == 48) other
   where
-    by : (b : Bool) → length (without_leading_zeros cs) ≤ length cs
-        → length (if b then without_leading_zeros cs else (c ∷ cs)) ≡ length (c ∷ cs)
-        → or_zero (if b then without_leading_zeros cs else (c ∷ cs)) ≡ c ∷ cs
-    by true shorter e = absurd (omega (arith, shorter, e))
-    by false shorter e = refl
+    by : (b : Bool) → not b ≡ true → or_zero (if b then without_leading_zeros cs else (c ∷ cs)) ≡ c ∷ cs
+    by true other = absurd cc
+    by false other = refl
 
--- digits of which the last is no zero
-pub trails_kept : (f : List ℕ) → length (without_trailing_zeros f) ≡ length f
-    → without_trailing_zeros f ≡ f
-unfolding without_trailing_zeros
-trails_kept [] e = refl
-trails_kept (c ∷ cs) e = by (without_trailing_zeros cs) (trails_kept cs) refl e
-  where
-    alone : (b : Bool) → (ds : List ℕ) → length (if b then [] else (c ∷ [])) ≡ suc (length ds)
-        → (if b then [] else (c ∷ [])) ≡ c ∷ ds
-    alone true ds e = absurd (omega (arith, e))
-    alone false [] e = refl
-    alone false (d ∷ ds) e = absurd (omega (arith, e))
+-- digits behind a point, of which the last is no zero
+pub trails_kept : (bytes : List ℕ) (n : ℕ) → 0 < n → length bytes ≡ n + 1
+    → (get_or bytes n 0 ≡ 48 → ⊥) → without_trailing_zeros (drop 1 bytes) ≡ drop 1 bytes
+trails_kept [] n some long other = absurd (omega (arith, long))
+trails_kept (b ∷ bs) zero some long other = absurd (omega (arith, some))
+trails_kept (b ∷ bs) (suc n) some long other =
+    subst (λ (f : List ℕ). without_trailing_zeros f ≡ f) (take_all (suc n) bs (omega (arith, long)))
+    (trailing_other bs n (suc n) (omega (arith, long)) (omega arith) other)
 
-    by : (r : List ℕ)
-        → (length (without_trailing_zeros cs) ≡ length cs → without_trailing_zeros cs ≡ cs)
-        → without_trailing_zeros cs ≡ r
-        → length (before_others c r) ≡ suc (length cs) → before_others c r ≡ c ∷ cs
-    by [] rest is e = alone (c == 48) cs e
-    by (d ∷ ds) rest is e = ap (λ (l : List ℕ). c ∷ l) (sym is ∙ rest (rw is (omega (arith, e))))
+-- a point and the digits behind it are appended
+pub point_pushed : (old bytes f out : List ℕ) (n : ℕ) → bytes ≡ with_point f → 0 < n → n ≡ length f
+    → out ≡ (old ++ 46 ∷ []) ++ take n f → out ≡ old ++ bytes
+point_pushed old bytes [] out n is some long pushed = absurd (omega (arith, some, long))
+point_pushed old bytes (d ∷ ds) out n is some long pushed =
+    pushed
+    ∙ ap (λ (l : List ℕ). (old ++ 46 ∷ []) ++ l) (take_all n (d ∷ ds) (omega (arith, long)))
+    ∙ append_assoc old (46 ∷ []) (d ∷ ds) ∙ ap (λ (l : List ℕ). old ++ l) (sym is)
+
+-- bytes are appended by their front and their rest
+pub both_pushed : (old bytes mid rest out : List ℕ) (n : ℕ) → rest ≡ drop n bytes
+    → mid ≡ old ++ take n bytes → out ≡ mid ++ rest → out ≡ old ++ bytes
+both_pushed old bytes mid rest out n there front behind =
+    behind ∙ ap (λ (l : List ℕ). l ++ rest) front ∙ append_assoc old (take n bytes) rest
+    ∙ ap (λ (l : List ℕ). old ++ l)
+    (ap (λ (l : List ℕ). take n bytes ++ l) there ∙ take-append-drop n bytes)
 
 spelled_plainly : (w f : List ℕ) → are_digits w ≡ true → 0 < length w
     → or_zero (without_leading_zeros w) ≡ w → without_trailing_zeros f ≡ f
@@ -607,13 +612,12 @@ spelled_plainly w f h some lead trail =
 -- bytes that are read as they stand, and have no needless one
 canonical : (bytes w f : List ℕ) (units : ℕ) → w ++ with_point f ≡ bytes → ReadsPlain bytes units
     → are_digits w ≡ true → 0 < length w → or_zero (without_leading_zeros w) ≡ w
-    → without_trailing_zeros f ≡ f → length bytes ≤ 16 → SpellsItself bytes
-canonical bytes w f units is plain h some lead trail short = record {
+    → without_trailing_zeros f ≡ f → SpellsItself bytes
+canonical bytes w f units is plain h some lead trail = record {
   units = units;
   plain = plain;
   text = dec_is_plain bytes (record { units = pos units }) plain.value
       ∙ ap plain_dec (sym is) ∙ spelled_plainly w f h some lead trail ∙ is;
-  short = short;
 }
 
 -- digits alone
@@ -627,7 +631,6 @@ whole_canonical bytes n whole all some few digits is lead =
     (whole_plain bytes n whole all some few digits is) (rw same at digits)
     (omega (arith, all, some))
     (subst (λ (w : List ℕ). or_zero (without_leading_zeros w) ≡ w) same lead) refl
-    (omega (arith, all, few))
 
 -- digits on both sides of a point
 pub point_canonical : (bytes rest : List ℕ) (n whole places behind : ℕ) → rest ≡ drop n bytes
@@ -644,16 +647,9 @@ point_canonical bytes rest n whole places behind there within some digits is poi
     let long_w : length w ≡ n = simp length-take (omega (arith, within)) in
     let text : w ++ with_point f ≡ bytes =
     ap (λ (back : List ℕ). w ++ back) (sym point ∙ there) ∙ take-append-drop n bytes in
-    let parts : length bytes ≡ length w + length (with_point f) =
-    ap length (sym text) ∙ length-append w (with_point f) in
     canonical bytes w f (whole * 10 ^ 8 + behind) text
     (point_plain bytes rest n whole places behind there within some digits is point fraction long
     few most units) digits (omega (arith, long_w, some)) lead trail
-    (omega (arith, parts, long_w, behind_point f, long, most))
-  where
-    behind_point : (f : List ℕ) → length (with_point f) ≤ 1 + length f
-    behind_point [] = omega arith
-    behind_point (d ∷ ds) = omega arith
 
 -- a number that can be read has a spelling: its fifteen digits with the point between them
 some_spelling : (d : Dec) → IsDec d → (v : List ℕ) × (read_dec v ≡ Ok d)

@@ -1,8 +1,8 @@
 -- Decimal numbers: their units and their spellings.
 use Rattle.std.proofs.Common.{◌≡◌, ◌==◌, nat_le, Ok, to_z, of_z, pow-add, ℕ, zero, suc, ◌+◌, ◌-◌}
-use Rattle.std.proofs.Common.{◌*◌, ◌/◌, ◌^◌, ◌<◌, ◌≤◌, Bool, true, false, List, [], ◌++◌, length}
+use Rattle.std.proofs.Common.{◌*◌, ◌/◌, ◌^◌, ◌<◌, ◌≤◌, Bool, true, false, List, ◌++◌, length}
 use Rattle.std.proofs.Common.{refl}
-use Rattle.std.proofs.Common.{sym, ap, ◌∙◌, arith, unsigned_abs, append-nil}
+use Rattle.std.proofs.Common.{sym, ap, ◌∙◌, arith, unsigned_abs}
 use Rattle.std.proofs.lemmas.List.{length-append}
 use Rattle.std.proofs.lemmas.Nat.{mul-le}
 use Rattle.std.proofs.Math.Nat.{pow-le-pow_right}
@@ -14,7 +14,7 @@ use Rattle.typed_fields.specs.declared.dec.Dec.{Dec}
 use Rattle.typed_fields.specs.Digits.{are_digits, number_of, without_leading_zeros}
 use Rattle.typed_fields.specs.Digits.{without_trailing_zeros, zero_padded}
 use Rattle.typed_fields.specs.Dec.{whole_part, fraction_part, whole_digits, fraction_digits}
-use Rattle.typed_fields.specs.Dec.{has_minus, units_of, signed, read_dec, IsDec, with_point}
+use Rattle.typed_fields.specs.Dec.{has_minus, units_of, signed, read_dec, IsDec}
 use Rattle.typed_fields.proofs.DigitsLemmas.{number_of-append, number_of-lt, are_digits-append}
 
 -- the magnitude of a signed number
@@ -107,19 +107,6 @@ read_dec-found
 -- and it fits its type
 pub dec_fits : (d : Dec) → IsDec d → to_z w128 (of_z w128 d.units) ≡ d.units
 dec_fits d h = back_small w128 d.units (omega (arith, units-lt d h))
-
--- nothing is said of a fraction of no units
-no_fraction : with_point (without_trailing_zeros (zero_padded 8 0)) ≡ []
-unfolding zero_padded without_trailing_zeros
-no_fraction = refl
-
--- and nothing is appended
-pub no_places : (old : List ℕ) (fraction : ℕ) → fraction ≡ 0
-    → old ≡ old ++ with_point (without_trailing_zeros (zero_padded 8 fraction))
-no_places old fraction none =
-    let places : ℕ → List ℕ = λ n. with_point (without_trailing_zeros (zero_padded 8 n)) in
-    sym (append-nil old)
-    ∙ ap (λ (bytes : List ℕ). old ++ bytes) (sym (ap places none ∙ no_fraction))
 
 -- a fraction of ten-thousandths has four digits, and zeros behind them
 pub four_places : (n : ℕ) → n % 10_000 ≡ 0

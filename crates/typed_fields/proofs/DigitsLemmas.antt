@@ -224,6 +224,22 @@ pub zero_padded_eight : (n : ℕ) → zero_padded 8 n ≡ (48 + n / 10000000 % 1
 unfolding zero_padded
 zero_padded_eight n = rw (div-one n)
 
+-- eight digits are four and four
+pub eight_of_four : (n : ℕ) → (48 + n / 10000 % 10000 / 1000 % 10)
+    ∷ (48 + n / 10000 % 10000 / 100 % 10) ∷ (48 + n / 10000 % 10000 / 10 % 10)
+    ∷ (48 + n / 10000 % 10000 % 10) ∷ (48 + n % 10000 / 1000 % 10) ∷ (48 + n % 10000 / 100 % 10)
+    ∷ (48 + n % 10000 / 10 % 10) ∷ (48 + n % 10000 % 10) ∷ [] ≡ zero_padded 8 n
+eight_of_four n =
+    let a : n / 10000 % 10000 / 1000 % 10 ≡ n / 10000000 % 10 = omega arith in
+    let b : n / 10000 % 10000 / 100 % 10 ≡ n / 1000000 % 10 = omega arith in
+    let c : n / 10000 % 10000 / 10 % 10 ≡ n / 100000 % 10 = omega arith in
+    let d : n / 10000 % 10000 % 10 ≡ n / 10000 % 10 = omega arith in
+    let e : n % 10000 / 1000 % 10 ≡ n / 1000 % 10 = omega arith in
+    let f : n % 10000 / 100 % 10 ≡ n / 100 % 10 = omega arith in
+    let g : n % 10000 / 10 % 10 ≡ n / 10 % 10 = omega arith in
+    let h : n % 10000 % 10 ≡ n % 10 = omega arith in
+    rw (a, b, c, d, e, f, g, h) (sym (zero_padded_eight n))
+
 -- a part as the end of a front
 slice_range_is : (bs : List ℕ) (i j : ℕ) → i ≤ j → slice_range bs i j ≡ drop i (take j bs)
 slice_range_is bs i j ordered =

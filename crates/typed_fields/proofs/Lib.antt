@@ -9,3 +9,4 @@ pub mod LawLemmas
 mod Worked
 pub mod StampLemmas
 pub mod DecLemmas
+pub mod Sixteen

@@ -110,7 +110,6 @@ pub record SpellsItself (bytes : List ℕ) : Type 0 where
   pub units : ℕ
   pub plain : ReadsPlain bytes units
   pub text : dec_text (record { units = pos units }) ≡ bytes
-  pub short : length bytes ≤ 16
 
 -- what is appended of the number that bytes spell
 pub record Respells (bytes before after : List ℕ) : Type 0 where

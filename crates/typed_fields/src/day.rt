@@ -1,8 +1,7 @@
 //! Days.
 
-ghost use Rattle.std.specs.Prelude.{◌≡◌, ◌≤◌, ◌<◌, ◌++◌, codes, take, length, IsTrue};
-ghost use Rattle.std.specs.Prelude.{◌+◌, vec_capacity, vec_len};
-ghost use Rattle.std.specs.Prelude.{IfOk, if◌then◌else◌};
+ghost use Rattle.std.specs.Prelude.{◌≡◌, ◌≤◌, ◌<◌, ◌++◌, ◌+◌, codes, take, length, IsTrue, IfOk};
+ghost use Rattle.std.specs.Prelude.{vec_capacity, vec_len, if◌then◌else◌};
 ghost use Rattle.typed_fields.specs.Digits.{are_digits, has_pattern};
 ghost use Rattle.typed_fields.specs.Day.{read_day, spells_date, day_number, day_digits, day_text};
 ghost use Rattle.typed_fields.specs.Day.{IsDayNumber, IsDay};

@@ -1,7 +1,9 @@
 //! Decimal numbers.
 
 ghost use Rattle.std.specs.Prelude.{◌≡◌, ◌+◌, ◌/◌, ◌^◌, ◌<◌, ◌≤◌, ◌++◌, unsigned_abs, length};
-ghost use Rattle.std.specs.Prelude.{◌*◌, ◌-◌, IsTrue, OnOk, IfErr, IfOk, IfSome, Ok, drop};
+ghost use Rattle.std.specs.Prelude.{◌*◌, ◌-◌, IsTrue, OnOk, IfErr, IfOk, IfSome, Ok, drop, take};
+ghost use Rattle.std.specs.Prelude.{◌%◌, ℕ, List, vec_capacity, vec_len};
+ghost use Rattle.std.specs.Io.{StartsWith};
 ghost use Rattle.std.specs.List.{before_first, after_first, position};
 ghost use Rattle.typed_fields.specs.Digits.{are_digits, number_of, without_trailing_zeros};
 ghost use Rattle.typed_fields.specs.Digits.{or_zero, without_leading_zeros, zero_padded};
@@ -9,7 +11,6 @@ ghost use Rattle.typed_fields.specs.Dec.{read_dec, dec_text, IsDec, has_minus, w
 ghost use Rattle.typed_fields.specs.Dec.{is_point, units_of, signed, sign_text, with_point};
 ghost use Rattle.typed_fields.specs.Dec.{SpellsItself, ReadsPlain, Respells, SpellsNone};
 ghost use Rattle.std.specs.Fmt.{decimal};
-ghost use Rattle.std.specs.Prelude.{◌%◌, vec_capacity, vec_len};
 
 use crate::digits::{
     MAX_DIGITS, are_digits, eight_digits, four_digits, front_digits, number, without_leading_zeros,
@@ -41,7 +42,7 @@ pub struct Dec {
 
 /// Whether the bytes begin with a minus sign.
 #[inline(always)]
-fn has_minus(bytes: &[u8]) -> bool
+pub fn has_minus(bytes: &[u8]) -> bool
     ensures { result ≡ has_minus bytes.now }
 {
     bytes.first() == Some(&b'-')
@@ -168,34 +169,80 @@ fn is_plain_whole(digits: &[u8]) -> bool
     match digits {
         [] => false,
         [_] => true,
-        _ => without_leading_zeros(digits).len() == digits.len(),
+        _ => digits[0] != b'0',
     }
 }
 
-/// Whether digits have no zero at the end.
+/// Appends the digits that stand at the front, of more than 15 the first 15, and tells how many.
 #[inline(always)]
-fn is_plain_fraction(digits: &[u8]) -> bool
-    ensures { IsTrue result → without_trailing_zeros digits.now ≡ digits.now }
+fn push_front(bytes: &[u8], out: &mut Vec<u8>) -> usize
+    requires { vec_len out.old + MAX_DIGITS ≤ vec_capacity out.old }
+    ensures within { result ≤ length bytes.now }
+    ensures few { result ≤ MAX_DIGITS }
+    ensures digits { IsTrue (are_digits (take result bytes.now)) }
+    ensures items { out.new.items ≡ out.old.items ++ take result bytes.now }
+    ensures len { vec_len out.new ≡ vec_len out.old + result }
+    ensures capacity { vec_capacity out.old ≤ vec_capacity out.new }
 {
-    without_trailing_zeros(digits).len() == digits.len()
+    let mut len = 0;
+    while len < bytes.len() && len < MAX_DIGITS && bytes[len].is_ascii_digit() {
+        out.push_reserved(bytes[len]);
+        len += 1;
+    }
+    len
 }
 
-/// Whether bytes are the canonical spelling of a number without a sign.
+/// Appends a point and at most eight digits behind it, of which the last is no zero, and tells how
+/// many. Where the bytes are something else, a part of them may be appended.
 #[inline(always)]
-fn spells_itself(bytes: &[u8]) -> bool
-    ensures { IsTrue result → SpellsItself bytes.now }
+fn push_point(bytes: &[u8], out: &mut Vec<u8>) -> Option<usize>
+    requires { vec_len out.old + 1 + MAX_DIGITS ≤ vec_capacity out.old }
+    ensures point { IfSome result (λ places. bytes.now ≡ with_point (drop 1 bytes.now)) }
+    ensures digits { IfSome result (λ places. IsTrue (are_digits (drop 1 bytes.now))) }
+    ensures places { IfSome result (λ places. places ≡ length (drop 1 bytes.now)) }
+    ensures few { IfSome result (λ places. places ≤ MAX_PLACES) }
+    ensures trail { IfSome result (λ places.
+        without_trailing_zeros (drop 1 bytes.now) ≡ drop 1 bytes.now) }
+    ensures items { IfSome result (λ places. out.new.items ≡ out.old.items ++ bytes.now) }
+    ensures kept { (more : List ℕ) × (out.new.items ≡ out.old.items ++ more) }
+    ensures len { vec_len out.new ≤ vec_len out.old + 1 + MAX_DIGITS }
+    ensures capacity { vec_capacity out.old ≤ vec_capacity out.new }
 {
-    let (len, _) = front_digits(bytes);
+    if bytes.first() != Some(&b'.') {
+        return None;
+    }
+    out.push_reserved(b'.');
+    let places = push_front(&bytes[1..], out);
+    if places == 0 || places > MAX_PLACES || bytes.len() != places + 1 {
+        return None;
+    }
+    if bytes[places] == b'0' {
+        return None;
+    }
+    Some(places)
+}
+
+/// Appends the bytes where they are the canonical spelling of a number without a sign, and tells
+/// whether they are. Where they are not, a part of them may be appended.
+#[inline(always)]
+fn push_plain(bytes: &[u8], out: &mut Vec<u8>) -> bool
+    requires { vec_len out.old + MAX_SPELLING ≤ vec_capacity out.old }
+    ensures own { IsTrue result → SpellsItself bytes.now }
+    ensures items { IsTrue result → out.new.items ≡ out.old.items ++ bytes.now }
+    ensures kept { StartsWith out.new.items out.old.items }
+    ensures len { vec_len out.new ≤ vec_len out.old + MAX_SPELLING }
+    ensures capacity { vec_capacity out.old ≤ vec_capacity out.new }
+{
+    let len = push_front(bytes, out);
     if len == 0 || !is_plain_whole(&bytes[..len]) {
         return false;
     }
     if len == bytes.len() {
         return true;
     }
-    let behind = &bytes[len..];
-    match units_behind(behind) {
+    match push_point(&bytes[len..], out) {
         None => false,
-        Some((places, _)) => len + places <= MAX_DIGITS && is_plain_fraction(&behind[1..]),
+        Some(places) => len + places <= MAX_DIGITS,
     }
 }
 
@@ -260,10 +307,11 @@ impl Dec {
         ensures len { vec_len out.new ≤ vec_len out.old + MAX_SPELLING }
         ensures capacity { vec_capacity out.old ≤ vec_capacity out.new }
     {
-        if spells_itself(value) {
-            out.extend_from_slice(value).unwrap();
+        let start = out.len();
+        if push_plain(value, out) {
             return Ok(());
         }
+        out.truncate(start);
         Dec::read(value)?.push(out);
         Ok(())
     }
@@ -300,20 +348,7 @@ fn whole_and_fraction(magnitude: u128) -> (u64, u32)
     }
 }
 
-/// Appends the minus sign of a negative number, where there is room.
-#[inline(always)]
-fn push_sign(out: &mut Vec<u8>, minus: bool)
-    requires { vec_len out.old < vec_capacity out.old }
-    ensures items { out.new.items ≡ out.old.items ++ sign_text minus }
-    ensures len { vec_len out.new ≤ vec_len out.old + 1 }
-    ensures capacity { vec_capacity out.old ≤ vec_capacity out.new }
-{
-    if minus {
-        out.push_reserved(b'-');
-    }
-}
-
-/// Appends the sign and the whole part, where there is room.
+/// Appends the minus sign of a negative number and the whole part, where there is room.
 #[inline(always)]
 fn push_whole(out: &mut Vec<u8>, minus: bool, whole: u64)
     requires { vec_len out.old + 21 ≤ vec_capacity out.old }
@@ -321,30 +356,18 @@ fn push_whole(out: &mut Vec<u8>, minus: bool, whole: u64)
     ensures len { vec_len out.new ≤ vec_len out.old + 21 }
     ensures capacity { vec_capacity out.old ≤ vec_capacity out.new }
 {
-    push_sign(out, minus);
+    if minus {
+        out.push_reserved(b'-');
+    }
     out.extend_from_slice(Buffer::new().format(whole).as_bytes())
         .unwrap();
 }
 
-/// Appends the digits of a fraction behind a point, where there are any and room for them.
-#[inline(always)]
-fn push_fraction(out: &mut Vec<u8>, fraction: u32)
-    requires small { fraction < 10 ^ 8 }
-    requires room { vec_len out.old + 9 ≤ vec_capacity out.old }
-    ensures items { out.new.items
-        ≡ out.old.items ++ with_point (without_trailing_zeros (zero_padded 8 fraction)) }
-    ensures len { vec_len out.new ≤ vec_len out.old + 9 }
-    ensures capacity { vec_capacity out.old ≤ vec_capacity out.new }
-{
-    if fraction != 0 {
-        push_places(out, fraction);
-    }
-}
-
-/// Appends the digits of a fraction, of which most have no more than four.
+/// Appends the digits of a fraction behind a point, where there are any and room for them. Most
+/// fractions have no more than four.
 #[inline(never)]
 #[tactic(auto, using(crate::proofs::DecLemmas::four_places))]
-fn push_places(out: &mut Vec<u8>, fraction: u32)
+fn push_fraction(out: &mut Vec<u8>, fraction: u32)
     requires small { fraction < 10 ^ 8 }
     requires room { vec_len out.old + 9 ≤ vec_capacity out.old }
     ensures items { out.new.items

@@ -130,16 +130,9 @@ pub(crate) fn four_digits(number: u16) -> [u8; 4]
 pub(crate) fn eight_digits(number: u32) -> [u8; 8]
     ensures { result ≡ zero_padded 8 number }
 {
-    [
-        b'0' + (number / 10_000_000 % 10) as u8,
-        b'0' + (number / 1_000_000 % 10) as u8,
-        b'0' + (number / 100_000 % 10) as u8,
-        b'0' + (number / 10_000 % 10) as u8,
-        b'0' + (number / 1000 % 10) as u8,
-        b'0' + (number / 100 % 10) as u8,
-        b'0' + (number / 10 % 10) as u8,
-        b'0' + (number % 10) as u8,
-    ]
+    let [a, b, c, d] = four_digits((number / 10_000 % 10_000) as u16);
+    let [e, f, g, h] = four_digits((number % 10_000) as u16);
+    [a, b, c, d, e, f, g, h]
 }
 
 /// Digits without the zeros in front of the first other digit.

@@ -1,7 +1,6 @@
 //! Whole numbers.
 
-ghost use Rattle.std.specs.Prelude.{◌≡◌, ◌++◌, IfOk};
-ghost use Rattle.std.specs.Prelude.{◌+◌, ◌≤◌, vec_capacity, vec_len};
+ghost use Rattle.std.specs.Prelude.{◌≡◌, ◌++◌, ◌+◌, ◌≤◌, IfOk, vec_capacity, vec_len};
 ghost use Rattle.typed_fields.specs.Number.{read_number, number_text, IsNumber};
 
 use crate::digits::{are_digits, number};

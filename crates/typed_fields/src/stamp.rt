@@ -12,10 +12,11 @@ ghost use Rattle.typed_fields.specs.Stamp.{seconds_text, stamp_text, millis_of_d
 ghost use Rattle.typed_fields.specs.Stamp.{cut_text, stamp_at, width, IsFine, IsStamp};
 
 use crate::day::{day_digits, day_number};
-use crate::digits::{are_digits, has_pattern, number, number_at, three_digits, two_digits};
+use crate::digits::{are_digits, number, number_at, three_digits, two_digits};
 use crate::fault::FieldFault;
 use crate::value::MAX_SPELLING;
 use std::alloc::AllocError;
+use std::simd::prelude::*;
 
 /// The last moment before the year 2100, in milliseconds since 1 January 1970, 00:00.
 pub const MAX_MILLIS: u64 = 4_102_444_799_999;
@@ -85,14 +86,19 @@ pub struct Stamp {
     pub frac: Fraction,
 }
 
-/// Whether bytes have the form of whole seconds. It stands once for all forms, so that its loops over
-/// patterns of known length are unrolled.
+/// Whether bytes have the form of whole seconds: with a zero for each digit, the first sixteen are
+/// one text. It stands once for all forms.
 #[inline(never)]
 fn has_seconds(bytes: &[u8]) -> bool
     ensures { result ≡ has_pattern (codes "YYYYMMDD-HH:MM:SS") bytes.now }
 {
-    bytes.len() == 17
-        && (has_pattern(b"YYYYMMDD", &bytes[..8]) && has_pattern(b"-HH:MM:SS", &bytes[8..]))
+    if bytes.len() != 17 {
+        return false;
+    }
+    let lanes = u8x16::from_slice(bytes);
+    let digits = lanes.simd_ge(u8x16::splat(b'0')) & lanes.simd_le(u8x16::splat(b'9'));
+    let zeros = digits.select(u8x16::splat(b'0'), lanes);
+    zeros.simd_eq(u8x16::from_array(*b"00000000-00:00:0")).all() && bytes[16].is_ascii_digit()
 }
 
 /// Whether bytes have a pattern of a point and letters: a point, and digits behind it.

@@ -26,7 +26,7 @@ use Rattle.typed_fields.specs.declared.dec.Dec.{Dec}
 use Rattle.typed_fields.specs.Number.{read_number, number_text}
 use Rattle.typed_fields.specs.Dec.{read_dec, dec_text}
 use Rattle.typed_fields.specs.declared.stamp.Stamp.{Stamp as StampValue}
-use Rattle.typed_fields.specs.Stamp.{cut, cut_text, read_fine, stamp_text}
+use Rattle.typed_fields.specs.Stamp.{cut, cut_text, read_fine, read_stamp, stamp_text}
 use Rattle.typed_fields.proofs.StampLaws.{read_cut, stamp_is_plain}
 use Rattle.typed_fields.specs.Day.{read_day, day_text}
 use Rattle.typed_fields.specs.MonthYear.{read_month_year, month_year_text}
@@ -263,3 +263,16 @@ code_good kind bytes h g = ap (λ x. coded x bytes) g ∙ as_code kind bytes h
 pub code_bad : (kind : ValueKind) (bytes : List ℕ) → IsTrue (is_byte_kind kind)
     → false ≡ is_good (judged (spelling kind bytes)) → None ≡ spelled kind bytes
 code_bad kind bytes h g = ap (λ x. coded x bytes) g ∙ as_code kind bytes h
+
+-- moments are judged by their reading
+pub judged_stamp : (v : List ℕ) → (length v == 0) ≡ false
+    → judged (spelt (λ stamp. v) (read_stamp v)) ≡ judged (spelling Stamp v)
+unfolding spelling
+judged_stamp [] some = absurd cc
+judged_stamp (b ∷ bs) some = refl
+
+pub judged_fine : (v : List ℕ) → (length v == 0) ≡ false
+    → judged (spelt (λ stamp. cut_text v) (read_fine v)) ≡ judged (spelling FineStamp v)
+unfolding spelling
+judged_fine [] some = absurd cc
+judged_fine (b ∷ bs) some = refl

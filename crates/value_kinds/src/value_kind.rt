@@ -11,20 +11,21 @@ ghost use Rattle.std.specs.Str.{bytes_eq};
 ghost use Rattle.std.specs.Char.{is_ascii_digit, is_ascii_uppercase};
 ghost use Rattle.typed_fields.specs.Number.{read_number, number_text};
 ghost use Rattle.typed_fields.specs.Dec.{read_dec, dec_text};
-ghost use Rattle.typed_fields.specs.Stamp.{stamp_text, IsStamp};
-ghost use Rattle.typed_fields.specs.Day.{day_text, is_date};
+ghost use Rattle.typed_fields.specs.Stamp.{stamp_text, IsStamp, cut_text, read_fine, read_stamp};
+ghost use Rattle.typed_fields.specs.Day.{day_text, is_date, read_day};
 ghost use Rattle.typed_fields.specs.MonthYear.{read_month_year, month_year_text, IsMonthYear};
 ghost use Rattle.typed_fields.specs.Flag.{flag_text};
 ghost use Rattle.value_kinds.specs.ValueKind as kinds;
 ghost use Rattle.value_kinds.specs.ValueKind.{Qty, Price, Reason, DayOfMonth, spelling, spelled};
 ghost use Rattle.value_kinds.specs.ValueKind.{spelt, if_in_range, is_code, are_spaced, are_codes};
+ghost use Rattle.value_kinds.specs.ValueKind.{known, listed_word};
 ghost use Rattle.value_kinds.specs.ValueKind.{codes_among, two_digits, code_text, two_digit_text};
 ghost use Rattle.value_kinds.specs.CodeKinds.{value_kind_of, judged, is_good, is_verbatim};
 ghost use Rattle.value_kinds.specs.CodeKinds.{is_byte_kind};
 
 use jiff::civil::Date;
 use typed_fields::laws::spellings_are_plain;
-use typed_fields::{Day, Dec, FieldFault, Flag, MonthYear, Number, Stamp};
+use typed_fields::{Day, Dec, FieldFault, Flag, MonthYear, Number, Stamp, has_minus};
 
 /// The most bytes of an id.
 const MAX_ID: usize = 128;
@@ -182,7 +183,16 @@ fn is_read<T: Drop>(read: Result<T, FieldFault>) -> Result<bool, FieldFault>
     }
 }
 
+/// Whether bytes are one of these codes, which are all that there are.
+#[inline(always)]
+fn judge_known(listed: &[u8], value: &[u8]) -> Result<bool, FieldFault>
+    ensures { result ≡ judged (known (is_code listed.now value.now) value.now) }
+{
+    good_or(is_code(listed, value), FieldFault::Range)
+}
+
 /// Whether codes between single spaces are all among these.
+#[inline(never)]
 fn judge_codes(listed: &[u8], value: &[u8]) -> Result<bool, FieldFault>
     ensures { result ≡ judged (codes_among listed.now value.now) }
 {
@@ -219,9 +229,22 @@ fn judge_reason(value: &[u8]) -> Result<bool, FieldFault>
     }
 }
 
-/// Whether bytes are a decimal number that is not negative.
-#[inline(never)]
+/// Whether bytes are a decimal number that is not negative, as each without a sign is.
+#[inline(always)]
 fn judge_qty(value: &[u8]) -> Result<bool, FieldFault>
+    ensures { result ≡ judged
+        (spelt dec_text (if_in_range (λ d. not (is_negative d.units)) (read_dec value.now))) }
+{
+    if has_minus(value) {
+        judge_signed(value)
+    } else {
+        judge_price(value)
+    }
+}
+
+/// The same of bytes that may begin with a sign.
+#[inline(never)]
+fn judge_signed(value: &[u8]) -> Result<bool, FieldFault>
     ensures { result ≡ judged
         (spelt dec_text (if_in_range (λ d. not (is_negative d.units)) (read_dec value.now))) }
 {
@@ -237,6 +260,47 @@ fn judge_price(value: &[u8]) -> Result<bool, FieldFault>
     ensures { result ≡ judged (spelt dec_text (read_dec value.now)) }
 {
     is_read(Dec::read(value))
+}
+
+/// Whether bytes are one of these words.
+#[inline(never)]
+fn judge_word(words: &[&[u8]], value: &[u8]) -> Result<bool, FieldFault>
+    ensures { result ≡ judged (Ok (listed_word
+        (list_any (bytes_eq value.now) (map (λ word. word.now) words.now)) value.now)) }
+{
+    Ok(is_word(words, value))
+}
+
+/// Whether bytes are a moment.
+#[inline(never)]
+fn judge_stamp(value: &[u8]) -> Result<bool, FieldFault>
+    ensures { result ≡ judged (spelt (λ stamp. value.now) (read_stamp value.now)) }
+{
+    is_read(Stamp::read(value))
+}
+
+/// Whether bytes are a moment in the fine form.
+#[inline(never)]
+fn judge_fine_stamp(value: &[u8]) -> Result<bool, FieldFault>
+    ensures { result ≡ judged (spelt (λ stamp. cut_text value.now) (read_fine value.now)) }
+{
+    is_read(Stamp::read_fine(value))
+}
+
+/// Whether bytes are a date.
+#[inline(never)]
+fn judge_date(value: &[u8]) -> Result<bool, FieldFault>
+    ensures { result ≡ judged (spelt (λ day. value.now) (read_day value.now)) }
+{
+    is_read(Day::read(value))
+}
+
+/// Whether bytes are a month of a year.
+#[inline(never)]
+fn judge_month(value: &[u8]) -> Result<bool, FieldFault>
+    ensures { result ≡ judged (spelt (λ month. value.now) (read_month_year value.now)) }
+{
+    is_read(MonthYear::read(value))
 }
 
 impl ValueKind {
@@ -257,9 +321,32 @@ impl ValueKind {
             ValueKind::Filled => Ok(true),
             ValueKind::Id => good_or(value.len() <= MAX_ID, FieldFault::Range),
             ValueKind::Code(listed) => Ok(is_code(listed, value)),
+            ValueKind::Known(listed) => judge_known(listed, value),
             ValueKind::Qty => judge_qty(value),
             ValueKind::Price => judge_price(value),
             _ => self.judge_any(value),
+        }
+    }
+
+    /// Whether a value of this kind is of the profile, as `judge` says, where nobody asks why not.
+    #[inline(always)]
+    #[tactic(auto, unfolding(crate::specs::ValueKind::spelling))]
+    pub fn accepts(&self, value: &[u8]) -> bool
+        ensures { result ≡ is_good (judged (spelling (value_kind_of self.now) value.now)) }
+    {
+        if value.is_empty() {
+            return false;
+        }
+        match self {
+            ValueKind::Filled => true,
+            ValueKind::Id => value.len() <= MAX_ID,
+            ValueKind::Code(listed) => is_code(listed, value),
+            ValueKind::Known(listed) => is_code(listed, value),
+            ValueKind::Qty => is_good(judge_qty(value)),
+            ValueKind::Price => is_good(judge_price(value)),
+            ValueKind::Stamp => is_good(judge_stamp(value)),
+            ValueKind::FineStamp => is_good(judge_fine_stamp(value)),
+            _ => is_good(self.judge_any(value)),
         }
     }
 
@@ -278,9 +365,9 @@ impl ValueKind {
             ValueKind::Text => good_or(value.len() <= MAX_TEXT, FieldFault::Range),
             ValueKind::OneByte => good_or(value.len() == 1, FieldFault::Form),
             ValueKind::Code(listed) => Ok(is_code(listed, value)),
-            ValueKind::Known(listed) => good_or(is_code(listed, value), FieldFault::Range),
+            ValueKind::Known(listed) => judge_known(listed, value),
             ValueKind::Codes(listed) => judge_codes(listed, value),
-            ValueKind::Word(words) => Ok(is_word(words, value)),
+            ValueKind::Word(words) => judge_word(words, value),
             ValueKind::Currency => good_or(
                 value.len() == 3 && are_capitals(value),
                 FieldFault::Form,
@@ -290,10 +377,10 @@ impl ValueKind {
             ValueKind::Reason => judge_reason(value),
             ValueKind::Qty => judge_qty(value),
             ValueKind::Price => judge_price(value),
-            ValueKind::Stamp => is_read(Stamp::read(value)),
-            ValueKind::FineStamp => is_read(Stamp::read_fine(value)),
-            ValueKind::Day => is_read(Day::read(value)),
-            ValueKind::MonthYear => is_read(MonthYear::read(value)),
+            ValueKind::Stamp => judge_stamp(value),
+            ValueKind::FineStamp => judge_fine_stamp(value),
+            ValueKind::Day => judge_date(value),
+            ValueKind::MonthYear => judge_month(value),
             ValueKind::DayOfMonth => judge_day(value),
         }
     }

@@ -1,6 +1,6 @@
 use Rattle.std.proofs.Common.{option_map, refl}
 use Rattle.std.proofs.lemmas.Result.{err_from_is_err_and}
-use Rattle.exec_translate.proofs.Bare.{reject_ready}
+use Rattle.exec_translate.proofs.Shell.{reject_ready}
 use Rattle.exec_translate.proofs.Shell.{is_good, is_lack, is_put}
 use Rattle.exec_translate.proofs.downward.reject_content.Goals as goal
 

@@ -1,6 +1,6 @@
 use Rattle.std.proofs.Common.{None, refl}
 use Rattle.std.proofs.lemmas.Result.{err_from_is_err_and}
-use Rattle.exec_translate.proofs.Bare.{report_ready}
+use Rattle.exec_translate.proofs.Shell.{report_ready}
 use Rattle.exec_translate.proofs.Shell.{is_good, is_lack, is_put}
 use Rattle.exec_translate.proofs.downward.report_content.Goals as goal
 

@@ -1,6 +1,5 @@
 use Rattle.first_faults.proofs.Given.{no_fault, reads}
-use Rattle.reports_fix42.proofs.Given.{few_contras}
-use Rattle.reports_fix42.proofs.Means.{report_means}
+use Rattle.reports_fix42.proofs.Means.{few_contras}
 use Rattle.reports_fix42.proofs.message.read_report.Goals as goal
 
 pub read_contras-requires : goal.read_contras-requires
@@ -11,4 +10,4 @@ pub returns-clause-says : goal.returns-clause-says
 returns-clause-says c =
     let none = no_fault c.execution_report.ensures c.in_ok-fields.ensures in
     reads c.execution_report.ensures c.in_ok-fields.ensures _
-    (report_means _ none c.in_ok-execution_report.field-0 c.in_ok-execution_report.ensures.says)
+    (c.in_ok-execution_report.ensures.says.means none)

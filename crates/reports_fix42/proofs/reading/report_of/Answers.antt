@@ -1,52 +1,39 @@
+use Rattle.std.proofs.Common.{codes, refl, rules}
+use Rattle.value_kinds.specs.ValueKind.{Id, Code, Qty, Price}
+use Rattle.row_values.specs.Kinds.{Value}
+use Rattle.row_values.proofs.SaidRows.{full, full_text}
+use Rattle.row_values.proofs.Days.{dated}
+use Rattle.row_values.proofs.ByTable.{says}
+use Rattle.reports_fix42.specs.Message.{execution_report_table}
+use Rattle.reports_fix42.proofs.Means.{◌&◌, report_is}
 use Rattle.reports_fix42.proofs.reading.report_of.Goals as goal
 
 pub returns-clause-says : goal.returns-clause-says
-returns-clause-says c = record {
-  resend = c.resend.ensures;
-  order_id = c.requires.texts.order_id;
-  secondary_id = c.requires.texts.secondary_id;
-  cl_ord_id = c.requires.texts.cl_ord_id;
-  orig_id = c.requires.texts.orig_id;
-  client_id = c.requires.texts.client_id;
-  exec_broker = c.requires.texts.exec_broker;
-  clearing_firm = c.requires.texts.clearing_firm;
-  contras = c.requires.contras;
-  exec_id = c.requires.texts.exec_id;
-  trans_type = c.code_or_zero.ensures;
-  ref_id = c.requires.texts.ref_id;
-  exec_type = c.code_or_zero-2.ensures;
-  ord_status = c.code_or_zero-3.ensures;
-  rej_reason = c.reason.ensures.text;
-  restate_reason = c.reason-2.ensures.text;
-  account = c.requires.texts.account;
-  settl_type = c.code.ensures;
-  settl_date = c.day.ensures.text;
-  symbol = c.requires.texts.symbol;
-  symbol_sfx = c.requires.texts.symbol_sfx;
-  security_id = c.requires.texts.security_id;
-  id_source = c.code-2.ensures;
-  security_type = c.requires.texts.security_type;
-  maturity = c.month_and_day.ensures.says;
-  security_exchange = c.requires.texts.security_exchange;
-  side = c.code_or_zero-4.ensures;
-  order_qty = c.qty.ensures.text;
-  ord_type = c.code-3.ensures;
-  price = c.price.ensures.text;
-  stop_px = c.price-2.ensures.text;
-  currency = c.requires.texts.currency;
-  time_in_force = c.code-4.ensures;
-  expire_date = c.day-2.ensures.text;
-  expire_time = c.stamp.ensures.text;
-  capacity = c.code-5.ensures;
-  last_qty = c.qty-2.ensures.text;
-  last_px = c.price-3.ensures.text;
-  last_mkt = c.requires.texts.last_mkt;
-  leaves = c.qty_or_zero.ensures.text;
-  cum = c.qty_or_zero-2.ensures.text;
-  avg = c.price_or_zero.ensures.text;
-  trade_date = c.day-3.ensures.text;
-  transact_time = c.stamp-2.ensures.text;
-  min_qty = c.qty-3.ensures.text;
-  max_floor = c.qty-4.ensures.text;
-  text = c.requires.texts.text;
-}
+returns-clause-says c =
+    let fields = c.args.fields.now in
+    report_is fields _ c.resend.ensures c.requires.contras (λ h.
+    let needs = says execution_report_table fields h in
+    full_text _ _ (needs 0 37 (Value Id) refl refl) (search rules) & (search rules)
+    & (search rules) & (search rules) & (search rules) & (search rules) & (search rules)
+    & full_text _ _ (needs 8 17 (Value Id) refl refl) (search rules)
+    & full _ _ (needs 9 20 (Value (Code (codes "0123"))) refl refl) c.code_or_zero.ensures
+    & (search rules)
+    & full _ _ (needs 11 150 (Value (Code (codes "0123456789ABCDE"))) refl refl)
+    c.code_or_zero-2.ensures
+    & full _ _ (needs 12 39 (Value (Code (codes "0123456789ABCDE"))) refl refl)
+    c.code_or_zero-3.ensures & c.reason.ensures.text & c.reason-2.ensures.text & (search rules)
+    & c.code.ensures & c.day.ensures.text
+    & full_text _ _ (needs 18 55 (Value Id) refl refl) (search rules) & (search rules)
+    & (search rules) & c.code-2.ensures & (search rules) & c.month_and_day.ensures.says.month
+    & c.month_and_day.ensures.says.day
+    (dated execution_report_table fields h 23 refl refl)
+    & (search rules)
+    & full _ _ (needs 26 54 (Value (Code (codes "123456"))) refl refl) c.code_or_zero-4.ensures
+    & c.qty.ensures.text & c.code-3.ensures & c.price.ensures.text & c.price-2.ensures.text
+    & (search rules) & c.code-4.ensures & c.day-2.ensures.text & c.stamp.ensures.text
+    & c.code-5.ensures & c.qty-2.ensures.text & c.price-3.ensures.text & (search rules)
+    & full _ _ (needs 39 151 (Value Qty) refl refl) c.qty_or_zero.ensures.text
+    & full _ _ (needs 40 14 (Value Qty) refl refl) c.qty_or_zero-2.ensures.text
+    & full _ _ (needs 41 6 (Value Price) refl refl) c.price_or_zero.ensures.text
+    & c.day-3.ensures.text & c.stamp-2.ensures.text & c.qty-3.ensures.text & c.qty-4.ensures.text
+    & (search rules) & refl)

@@ -2,7 +2,6 @@ use Rattle.std.proofs.Common.{Ok, refl, sym, ap, ◌∙◌}
 use Rattle.first_faults.proofs.Given.{no_fault, reads}
 use Rattle.rows_fix50.specs.Header.{completed_by}
 use Rattle.reports_fix50.proofs.Few.{few_parties, few_contras}
-use Rattle.reports_fix50.proofs.Means.{report_means}
 use Rattle.reports_fix50.proofs.message.read_report.Goals as goal
 
 pub read_groups-requires-clause-parties : goal.read_groups-requires-clause-parties
@@ -18,5 +17,4 @@ returns-clause-says c =
     let none = no_fault c.execution_report.ensures c.in_ok-fields.ensures in
     ap completed_by (reads c.execution_report.ensures c.in_ok-fields.ensures _ refl)
     ∙ ap Ok
-    (sym (report_means _ none c.in_ok-execution_report.field-0
-    c.in_ok-execution_report.ensures.says))
+    (sym (c.in_ok-execution_report.ensures.says.means none))

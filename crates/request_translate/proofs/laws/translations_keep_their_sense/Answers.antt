@@ -1,4 +1,4 @@
-use Rattle.request_translate.proofs.KeptSense.{frames_keep}
+use Rattle.request_translate.proofs.Translated.{frames_keep}
 use Rattle.request_translate.proofs.laws.translations_keep_their_sense.Goals as goal
 
 pub returns : goal.returns

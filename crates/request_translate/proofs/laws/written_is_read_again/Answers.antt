@@ -1,4 +1,4 @@
-use Rattle.request_translate.proofs.WrittenAgain.{again42, again50}
+use Rattle.request_translate.proofs.AsStructs.{again42, again50}
 use Rattle.request_translate.proofs.laws.written_is_read_again.Goals as goal
 
 pub returns : goal.returns

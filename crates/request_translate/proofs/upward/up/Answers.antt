@@ -1,8 +1,9 @@
 use Rattle.std.proofs.Common.{◌∙◌}
 use Rattle.std.proofs.lemmas.Result.{err_from_is_err_and}
 use Rattle.dict_fix42.specs.Said.{says as says42}
+use Rattle.dict_fix50.specs.Said.{says as says50}
 use Rattle.request_translate.proofs.AsStructs.{canonical, means, up_is}
-use Rattle.request_translate.proofs.Lacks.{lack_is}
+use Rattle.request_translate.proofs.Sayable.{lack_is}
 use Rattle.request_translate.proofs.upward.up.Goals as goal
 
 pub returns-in_err-content-clause-lack : goal.returns-in_err-content-clause-lack
@@ -21,16 +22,10 @@ returns-in-Ok-clause-rules c =
 
 pub returns-in-Ok-clause-sense : goal.returns-in-Ok-clause-sense
 returns-in-Ok-clause-sense c =
-    means c.args.msg.now c.requires.sound c.type42.result.now c.deref.result.now c.type42.ensures
-    c.in_ok-split.split.fields c.in_ok-split.split.fault c.in_ok-split.ensures
-    (c.deref.ensures.value ∙ c.in_ok-content.ensures.ok.bytes) c.in_ok-content.ensures.ok.said
-    c.in-Ok.request c.set_resend.new.msg c.resend.result c.in-Ok.ensures.says
-    c.set_resend.ensures.says c.resend.ensures
+    means c.args.msg.now c.requires.sound c.in_ok-content.ensures.ok.said
+    (says50 c.set_resend.new.msg) (returns-in-Ok-clause-rules c)
 
 pub returns-in-Ok-clause-canonical : goal.returns-in-Ok-clause-canonical
 returns-in-Ok-clause-canonical c =
-    canonical c.args.msg.now c.requires.sound c.type42.result.now c.deref.result.now
-    c.type42.ensures c.in_ok-split.split.fields c.in_ok-split.split.fault c.in_ok-split.ensures
-    (c.deref.ensures.value ∙ c.in_ok-content.ensures.ok.bytes) c.in_ok-content.ensures.ok.said
-    c.in-Ok.request c.set_resend.new.msg c.resend.result c.in-Ok.ensures.says
-    c.set_resend.ensures.says c.resend.ensures
+    canonical c.args.msg.now c.requires.sound c.in_ok-content.ensures.ok.said
+    (says50 c.set_resend.new.msg) (returns-in-Ok-clause-rules c)

@@ -1,6 +1,7 @@
 use Rattle.std.proofs.Common.{refl}
-use Rattle.translate_fix44.proofs.Asked.{each_for}
+use Rattle.order_meaning.specs.Request.{New}
 use Rattle.translate_fix44.proofs.rules.request_rules.Goals as goal
 
 pub returns : goal.returns
-returns c = each_for _ refl refl refl refl refl
+returns c New = record { are = refl; read = refl }
+returns c kind = record { are = refl; read = refl }

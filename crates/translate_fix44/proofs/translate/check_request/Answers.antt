@@ -1,4 +1,4 @@
-use Rattle.translate_fix44.proofs.Judged.{is_lacking}
+use Rattle.translate_fix44.proofs.Put.{is_lacking}
 use Rattle.translate_fix44.proofs.translate.check_request.Goals as goal
 
 pub returns-clause-refused : goal.returns-clause-refused

@@ -1,4 +1,4 @@
-use Rattle.std.proofs.Common.{rules, ◌≡◌, length}
+use Rattle.std.proofs.Common.{rules}
 use Rattle.std.proofs.lemmas.Result.{err_from_is_err_and}
 use Rattle.translation.proofs.Bodies.{unwritten, written}
 use Rattle.translation.proofs.Going.{refused_other, unwritten_other, written_other}
@@ -7,30 +7,19 @@ use Rattle.translate_fix44.proofs.translate.write.Goals as goal
 
 pub returns-clause-ok : goal.returns-clause-ok
 returns-clause-ok c =
-    let d = direction c.args.way in
-    let fields = c.args.split.now.fields in
     let put = c.in_ok-put.ensures.ok in
-    let head : c.len-head.result ≡ length c.put_head.new.out.items = search rules in
-    let whole : c.len-whole.result ≡ length c.put.new.out.items = search rules in
-    written_other d fields c.args.split.now.fault put.gone c.put.new.out.items
-    c.check_lengths.result
-    (written (d.head fields) (d.content put.gone.m put.gone.w) c.clear.new.self.items
-    c.put_head.new.out.items c.put.new.out.items c.clear.ensures.items c.in_ok-put_head.ensures
-    put.bytes c.len-head.result c.len-whole.result head whole c.check_lengths.result
-    c.check_lengths.ensures.ok)
+    written_other (direction c.args.way) c.args.split.now.fields c.args.split.now.fault put.gone _ _
+    (written _ _ _ _ _ c.clear.ensures.items c.in_ok-put_head.ensures put.bytes c.len-head.result
+    c.len-whole.result (search rules) (search rules) _ c.check_lengths.ensures.ok)
 
 pub returns-clause-refused : goal.returns-clause-refused
 returns-clause-refused c =
     let d = direction c.args.way in
-    let fields = c.args.split.now.fields in
     let put = c.in_ok-put.ensures.ok in
-    let head : c.len-head.result ≡ length c.put_head.new.out.items = search rules in
-    let whole : c.len-whole.result ≡ length c.put.new.out.items = search rules in
-    unwritten_other d fields c.args.split.now.fault put.gone c.check_lengths.result
-    (unwritten (d.head fields) (d.content put.gone.m put.gone.w) c.clear.new.self.items
-    c.put_head.new.out.items c.put.new.out.items c.clear.ensures.items c.in_ok-put_head.ensures
-    put.bytes c.len-head.result c.len-whole.result head whole c.check_lengths.result
-    c.check_lengths.ensures.long)
+    unwritten_other d c.args.split.now.fields c.args.split.now.fault put.gone _
+    (unwritten (d.head c.args.split.now.fields) _ _ _ _ c.clear.ensures.items
+    c.in_ok-put_head.ensures put.bytes c.len-head.result c.len-whole.result (search rules)
+    (search rules) _ c.check_lengths.ensures.long)
 
 pub returns-in_err-put-clause-refused : goal.returns-in_err-put-clause-refused
 returns-in_err-put-clause-refused c =

@@ -1,5 +1,4 @@
-use Rattle.std.proofs.Common.{ap, ◌∙◌, sym, length, arith}
-use Rattle.std.proofs.lemmas.Bool.Decides.{nat_tests}
+use Rattle.std.proofs.Common.{arith}
 use Rattle.typed_fields.proofs.DecLaws.{leads_kept, one_kept}
 use Rattle.typed_fields.proofs.dec.is_plain_whole.Goals as goal
 
@@ -9,5 +8,4 @@ returns-in-len1 c = λ yes.
 
 pub returns-in_default : goal.returns-in_default
 returns-in_default c = λ yes.
-    leads_kept c.args.digits.now (omega (arith, c.in_default.len_at_least))
-    (ap length (sym c.without_leading_zeros.ensures.value) ∙ grind (arith, nat_tests, yes))
+    leads_kept c.args.digits.now (omega (arith, c.in_default.len_at_least)) yes

@@ -6,8 +6,8 @@ use Rattle.row_values.specs.Kinds.{Kind, judge}
 use Rattle.first_faults.proofs.FirstFaults.{by_table}
 use Rattle.first_faults.proofs.indexed.Indexed.first_fault.Goals as goal
 
-pub returns : goal.returns
-returns c =
+pub returns-in-Some : goal.returns-in-Some
+returns-in-Some c =
     let fields = c.args.fields.now in
     c.first_fault.ensures
     ∙ by_table c.self.inside.table.now fields c.found.result

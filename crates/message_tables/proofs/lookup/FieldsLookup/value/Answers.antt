@@ -6,10 +6,6 @@ pub returns-in-None : goal.returns-in-None
 returns-in-None c =
     value_by_place c.args.tag c.args.self.now None None c.in-None.ensures.place refl
 
-pub returns-in-None-at : goal.returns-in-None-at
-returns-in-None-at c = value_by_place c.args.tag c.args.self.now (Some c.in-Some.place) None
-    c.in-Some.ensures.place c.in-None-at.ensures
-
-pub returns-in-Some-at : goal.returns-in-Some-at
-returns-in-Some-at c = value_by_place c.args.tag c.args.self.now (Some c.in-Some.place) _
-    c.in-Some.ensures.place c.in-Some-at.ensures
+pub returns-in-Some : goal.returns-in-Some
+returns-in-Some c = value_by_place c.args.tag c.args.self.now (Some c.in-Some.place) _
+    c.in-Some.ensures.place c.field.ensures

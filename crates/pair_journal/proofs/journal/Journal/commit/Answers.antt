@@ -22,7 +22,7 @@ append-requires-clause-stands g c = λ x e.
 pub add-requires-clause-goes_on : goal.add-requires-clause-goes_on
 add-requires-clause-goes_on g c =
     let entries = c.self.inside.kept.entries in
-    let same = c.into_entry-entry.ensures
+    let same = c.as_ref.ensures ∙ c.into_entry-entry.ensures
     ∙ ap (λ (d : OnDay). d.entry) c.dated-dated.ensures.dated in
     subst (λ (e : Entry). GoesOn (numbers_before (numbers_after first_numbers entries) e) e)
     (sym same) (goes_on_inside (state_of c.self.inside) _ c.args.prepared c.self.view_is
@@ -77,13 +77,13 @@ invariant_of-self-2 g c =
     c.day.result c.day_behind-day.result c.dated-dated.result c.payload-payload.result.now
     c.day.ensures.number c.entry.ensures.entry c.day_behind-day.ensures
     c.dated-dated.ensures.dated c.payload-payload.ensures.bytes in
-    let same = c.into_entry-entry.ensures
+    let same = c.as_ref.ensures ∙ c.into_entry-entry.ensures
     ∙ ap (λ (d : OnDay). d.entry) c.dated-dated.ensures.dated in
     record {
       named = kept.named;
       extent = extent_more c.args.prepared c.payload-payload.result.now
           c.dated-dated.ensures.sound c.self.inside.log c.append.new.self c.self.inside.names
-          c.self.inside.kept.entries c.add.new.self.entries c.into_entry-entry.result said
+          c.self.inside.kept.entries c.add.new.self.entries c.as_ref.result said
           kept.extent (ap (λ s. s.count) log) (ap (λ s. s.end) log)
           (ap (λ k. k.entries) c.add.ensures) same;
     }
@@ -96,7 +96,7 @@ returns-clause-stands g c = λ x e.
     c.dated-dated.ensures.dated c.payload-payload.ensures.bytes in
     let on = goes_on_inside (state_of c.self.inside) _ c.args.prepared c.self.view_is
     c.day.ensures.sound c.requires.goes_on in
-    let same = c.into_entry-entry.ensures
+    let same = c.as_ref.ensures ∙ c.into_entry-entry.ensures
     ∙ ap (λ (d : OnDay). d.entry) c.dated-dated.ensures.dated in
     let stands = subst (λ (s : JournalState). ForSome (g.D.Disk.bytes c.args.disk.now)
     (λ b. JournalOf b (Born s.names s.entries))) (sym c.self.view_is) c.requires.stands in
@@ -114,14 +114,14 @@ returns-clause-commits g c =
     c.day.result c.day_behind-day.result c.dated-dated.result c.payload-payload.result.now
     c.day.ensures.number c.entry.ensures.entry c.day_behind-day.ensures
     c.dated-dated.ensures.dated c.payload-payload.ensures.bytes in
-    let same = c.into_entry-entry.ensures
+    let same = c.as_ref.ensures ∙ c.into_entry-entry.ensures
     ∙ ap (λ (d : OnDay). d.entry) c.dated-dated.ensures.dated in (
-      same,
+      c.into_entry-entry.ensures ∙ ap (λ (d : OnDay). d.entry) c.dated-dated.ensures.dated,
       subst (λ (s : JournalState). HasRoom (payloads_of s.names s.entries)
           (payload_behind s.entries c.args.prepared)) c.self.view_is
           (has_room c.self.inside.log c.self.inside.names c.self.inside.kept.entries
           c.args.prepared c.payload-payload.result.now c.self.invariant.extent said log.1),
       committed c.self.inside.log c.append.new.self c.self.inside.names c.self.inside.kept
-          c.add.new.self c.args.self.now c.self.view_is c.args.prepared c.into_entry-entry.result
-          _ _ log.2 c.add.ensures same,
+          c.add.new.self c.args.self.now c.self.view_is c.args.prepared c.as_ref.result _ _
+          log.2 c.add.ensures same,
     )

@@ -1,18 +1,16 @@
-use Rattle.std.proofs.Common.{◌++◌, ◌∙◌, ℕ, List, subst, sym}
+use Rattle.std.proofs.Common.{◌++◌, ◌∙◌}
 use Rattle.std.proofs.lemmas.Result.{err_from_is_err_and}
-use Rattle.frame_grammar.specs.declared.frame.Kind.{Kind}
-use Rattle.frame_grammar.specs.Frame.{IsFrame, IsWritable, frame_of}
+use Rattle.frame_grammar.specs.Frame.{frame_of}
 use Rattle.translation.proofs.Going.{can_be_written, refused, translation}
 use Rattle.translate_fix44.specs.Translation.{direction}
-use Rattle.translate_fix44.proofs.Checked.{fair}
+use Rattle.translate_fix44.proofs.Fair.{fair}
 use Rattle.translate_fix44.proofs.translate.Translator44.translate.Goals as goal
 
 pub write_frame-requires : goal.write_frame-requires
 write_frame-requires c =
     let split = c.split_into.new.split in
-    let P : List ℕ → Type 0 = λ bytes. IsWritable bytes in
-    subst P (sym c.deref.ensures.value) (can_be_written (direction c.args.way) split.fields
-    split.fault c.args.body.now c.in_ok-split_into.ensures (fair c.args.way) c.write.new.other.items
+    rw c.deref.ensures.value (can_be_written (direction c.args.way) split.fields split.fault
+    c.args.body.now c.in_ok-split_into.ensures (fair c.args.way) c.write.new.other.items
     c.in_ok-write.ensures.ok)
 
 pub returns-in-Ok-clause-ok : goal.returns-in-Ok-clause-ok
@@ -20,9 +18,7 @@ returns-in-Ok-clause-ok c =
     let split = c.split_into.new.split in
     let d = direction c.args.way in
     let other = c.write.new.other.items in
-    let P : Kind → Type 0 = λ k. IsFrame k c.deref.result.now (frame_of k c.deref.result.now) in
-    let Q : List ℕ → Type 0 = λ b. IsFrame d.kind b (frame_of d.kind b) in
-    let frame = subst Q c.deref.ensures.value (subst P c.kind.ensures c.in-Ok.ensures.frame) in (
+    let frame = rw (c.kind.ensures, c.deref.ensures.value) at c.in-Ok.ensures.frame in (
       frame_of d.kind other,
       translation d split.fields split.fault c.args.body.now c.in_ok-split_into.ensures
           (fair c.args.way) other c.in_ok-write.ensures.ok frame,
