@@ -1,115 +1,29 @@
 //! Writing a frame.
-ghost use Rattle.std.specs.Prelude.{◌≡◌, ◌↔◌, ◌+◌, ◌<◌, ◌≤◌, ◌++◌, ℕ, List, decimal, length, take};
-ghost use Rattle.std.specs.Prelude.{Err, OnOk, OnErr, vec_capacity, vec_len};
-ghost use Rattle.frame_grammar.specs.Frame.{IsWritable, IsFrame, frame_of, opening};
+ghost use Rattle.std.specs.Prelude.{◌≡◌, ◌↔◌, ◌<◌, ◌++◌, ℕ, List, length, take, Err, OnOk, OnErr};
+ghost use Rattle.frame_grammar.specs.Frame.{IsWritable, IsFrame, frame_of, front, trailer};
 ghost use Rattle.frame_grammar.specs.Found.{Whole, found};
 
-use crate::checksum::trailer_of;
+use crate::checksum::{opening_of, trailer_of};
 use crate::frame::{MAX_BODY, SOH};
 use crate::{FrameError, Kind};
+use itoa::Buffer;
 use std::alloc::AllocError;
 
-/// The most bytes of a frame besides its body: the longest opening, four digits, SOH, the trailer.
-const AROUND: usize = 25;
-
-// Appends the opening of a frame, where there is room for it. Each text is known where it is
-// copied.
-#[inline(always)]
-fn push_opening(kind: Kind, out: &mut Vec<u8>)
-    requires { vec_len out.old + 13 ≤ vec_capacity out.old }
-    ensures items { out.new.items ≡ out.old.items ++ opening kind }
-    ensures len { vec_len out.new ≤ vec_len out.old + 13 }
-    ensures capacity { vec_capacity out.old ≤ vec_capacity out.new }
-{
-    match kind {
-        Kind::Fix42 => out.extend_from_slice(b"8=FIX.4.2\x019=").unwrap(),
-        Kind::Fix44 => out.extend_from_slice(b"8=FIX.4.4\x019=").unwrap(),
-        Kind::Fixt11 => out.extend_from_slice(b"8=FIXT.1.1\x019=").unwrap(),
-    }
-}
-
-// Appends a digit.
-#[inline(always)]
-#[tactic(auto, using(crate::proofs::Written::one_pushed))]
-fn push_one(out: &mut Vec<u8>, number: u16)
-    requires most { number < 10 }
-    requires room { vec_len out.old + 1 ≤ vec_capacity out.old }
-    ensures items { out.new.items ≡ out.old.items ++ decimal number }
-    ensures len { vec_len out.new ≤ vec_len out.old + 1 }
-    ensures capacity { vec_capacity out.old ≤ vec_capacity out.new }
-{
-    out.push_reserved(b'0' + number as u8);
-}
-
-// Appends a number of at most two digits.
-#[inline(always)]
-#[tactic(auto, using(crate::proofs::Written::digit_pushed))]
-fn push_two(out: &mut Vec<u8>, number: u16)
-    requires most { number < 100 }
-    requires room { vec_len out.old + 2 ≤ vec_capacity out.old }
-    ensures items { out.new.items ≡ out.old.items ++ decimal number }
-    ensures len { vec_len out.new ≤ vec_len out.old + 2 }
-    ensures capacity { vec_capacity out.old ≤ vec_capacity out.new }
-{
-    if number < 10 {
-        push_one(out, number)
-    } else {
-        push_one(out, number / 10);
-        out.push_reserved(b'0' + (number % 10) as u8);
-    }
-}
-
-// Appends a number of at most three digits.
-#[inline(always)]
-#[tactic(auto, using(crate::proofs::Written::digit_pushed))]
-fn push_three(out: &mut Vec<u8>, number: u16)
-    requires most { number < 1000 }
-    requires room { vec_len out.old + 3 ≤ vec_capacity out.old }
-    ensures items { out.new.items ≡ out.old.items ++ decimal number }
-    ensures len { vec_len out.new ≤ vec_len out.old + 3 }
-    ensures capacity { vec_capacity out.old ≤ vec_capacity out.new }
-{
-    if number < 10 {
-        push_one(out, number)
-    } else {
-        push_two(out, number / 10);
-        out.push_reserved(b'0' + (number % 10) as u8);
-    }
-}
-
-// Appends a number of at most four digits.
-#[inline(always)]
-#[tactic(auto, using(crate::proofs::Written::digit_pushed))]
-fn push_four(out: &mut Vec<u8>, number: u16)
-    requires most { number < 10000 }
-    requires room { vec_len out.old + 4 ≤ vec_capacity out.old }
-    ensures items { out.new.items ≡ out.old.items ++ decimal number }
-    ensures len { vec_len out.new ≤ vec_len out.old + 4 }
-    ensures capacity { vec_capacity out.old ≤ vec_capacity out.new }
-{
-    if number < 10 {
-        push_one(out, number)
-    } else {
-        push_three(out, number / 10);
-        out.push_reserved(b'0' + (number % 10) as u8);
-    }
-}
-
-// Appends the frame of a body. It leaves what was there at the front.
-fn append(kind: Kind, body: &[u8], out: &mut Vec<u8>) -> Result<(), AllocError>
-    requires { length body.now ≤ MAX_BODY }
-    ensures ok { OnOk result (out.new.items ≡ out.old.items ++ frame_of kind body.now) }
+// Appends the frame of a body, whose length these digits say. It leaves what was there at the
+// front.
+fn append(kind: Kind, digits: &[u8], body: &[u8], out: &mut Vec<u8>) -> Result<(), AllocError>
+    ensures ok { OnOk result (out.new.items ≡
+        out.old.items ++
+        (front kind digits.now body.now ++ trailer (front kind digits.now body.now))) }
     ensures kept { take (length out.old.items) out.new.items ≡ out.old.items }
 {
     let start = out.len();
-    out.reserve(AROUND + body.len())?;
-    push_opening(kind, out);
-    push_four(out, body.len() as u16);
-    out.push_reserved(SOH);
-    out.extend_from_slice(body).unwrap();
+    out.extend_from_slice(opening_of(kind))?;
+    out.extend_from_slice(digits)?;
+    out.push(SOH)?;
+    out.extend_from_slice(body)?;
     let last = trailer_of(&out[start..]);
-    out.extend_from_slice(&last).unwrap();
-    Ok(())
+    out.extend_from_slice(&last)
 }
 
 /// Appends the frame of a body ("Message Format"): BeginString(8), BodyLength(9) without zeros in
@@ -132,8 +46,10 @@ pub fn write_frame(kind: Kind, body: &[u8], out: &mut Vec<u8>) -> Result<(), Fra
     if body.len() > MAX_BODY {
         return Err(FrameError::TooLong);
     }
+    let mut buffer = Buffer::new();
+    let digits = buffer.format(body.len()).as_bytes();
     let start = out.len();
-    if append(kind, body, out).is_err() {
+    if append(kind, digits, body, out).is_err() {
         out.truncate(start);
         return Err(FrameError::NoMemory);
     }

@@ -12,7 +12,7 @@ use field_groups::{Fields, is_type};
 use order_meaning::{Lack, Lines};
 use reports_fix50::{cancel_reject, execution_report};
 use row_values::read_lines;
-use rule_rows::{put_in_line, put_rules};
+use rule_rows::put_rules;
 use std::alloc::Global;
 
 /// Appends the content of FIX 4.2 of a report of FIX 5.0 SP2, 8 or 9, whose fields are at no fault,
@@ -24,7 +24,6 @@ use std::alloc::Global;
 /// `Lack::Tag(150)` exactly where the ExecType(150) of an execution report (8) has no counterpart;
 /// `Lack::Tag(41)` exactly where a cancel reject says no OrigClOrdID(41) and none is known;
 /// `Lack::NoMemory` for want of memory. Then `out` is unchanged.
-#[inline(never)]
 pub fn put_down(
     alloc: Global,
     msg_type: &[u8],
@@ -50,7 +49,7 @@ pub fn put_down(
                 known,
             },
         };
-        put_in_line(&source, report_rules(), out)
+        put_rules(&source, report_rules(), out)
     } else {
         let source = Source {
             fields,

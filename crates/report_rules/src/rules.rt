@@ -120,7 +120,6 @@ static REJECT_RULES: [Rule; 10] = [
 ];
 
 /// The rules of an execution report, whatever is known besides.
-#[inline(always)]
 pub(crate) fn report_rules() -> &'static [Rule]
     ensures { (known : Said) → AreFor (code known) report_table (down_rules (rules.Same 41))
         result.now }

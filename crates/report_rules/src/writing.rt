@@ -376,7 +376,6 @@ impl<'k> OwnRule<Besides<'k>> for Own {
 
     ghost lacks = { lacks };
 
-    #[inline(always)]
     fn put(&self, source: &Source<'_, 'k, '_>, out: &mut Vec<u8>) -> Result<(), Lack> {
         let fields = source.fields;
         match self {

@@ -10,7 +10,7 @@ use crate::reading::Good;
 use crate::rules::up_rules;
 use crate::writing::{Source, first_lack};
 use order_meaning::Lack;
-use rule_rows::put_in_line;
+use rule_rows::put_rules;
 
 /// Appends the content of FIX 5.0 SP2 of a request, rule by rule.
 ///
@@ -18,7 +18,6 @@ use rule_rows::put_in_line;
 ///
 /// `Tag` exactly where FIX 5.0 SP2 cannot say what the field of this tag says, 59 before 47;
 /// `NoMemory` for want of memory. Then `out` is unchanged.
-#[inline(never)]
 pub fn put_up(good: &Good<'_, '_>, out: &mut Vec<u8>) -> Result<(), Lack>
     requires { IsGood good.now }
     ensures ok { OnOk result (IsPut (said good.now) out.old.items out.new.items) }
@@ -30,7 +29,7 @@ pub fn put_up(good: &Good<'_, '_>, out: &mut Vec<u8>) -> Result<(), Lack>
         table: good.table,
         besides: (),
     };
-    put_in_line(&source, up_rules(), out)
+    put_rules(&source, up_rules(), out)
 }
 
 /// The tag of what FIX 5.0 SP2 cannot say of a request: 59 before 47. It takes no memory.

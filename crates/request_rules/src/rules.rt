@@ -80,7 +80,6 @@ const UP_RULES: &[Rule] = &[
 ];
 
 /// The rules.
-#[inline(always)]
 pub(crate) fn up_rules() -> &'static [Rule]
     ensures rules { map (rule_of code) result.now ≡ up_rules }
     ensures news { AreRead code (table 68 new_order) result.now }

@@ -194,7 +194,6 @@ impl OwnRule<()> for Own {
 
     ghost lacks = { lacks };
 
-    #[inline(always)]
     fn put(&self, source: &Source<'_, '_>, out: &mut Vec<u8>) -> Result<(), Lack> {
         let fields = source.fields;
         match self {

@@ -1,14 +1,13 @@
 -- Inside: the rules of a direction as the code has them, what it reads by them, and what it writes
 -- by each of what it has read, whatever the kinds of the direction's own are.
-use Rattle.std.specs.Prelude.{◌≡◌, ℕ, Bool, List, [], ◌∷◌, drop, map, Option, Some, None}
-use Rattle.std.specs.List.{flat_map}
+use Rattle.std.specs.Prelude.{◌≡◌, ℕ, Bool, List, [], ◌∷◌, map, Option, Some, None}
 use Rattle.std.specs.Option.{option_map}
 use Rattle.typed_fields.specs.Stamp.{cut_text}
-use Rattle.field_groups.specs.Field.{Field, body_of}
+use Rattle.field_groups.specs.Field.{Field}
 use Rattle.message_tables.specs.CodeTables.{table_of as code_table}
 use Rattle.message_tables.specs.Content.{cell_fields, group_fields}
 use Rattle.message_tables.specs.FirstFault.{message_in}
-use Rattle.message_tables.specs.Tables.{Said, Table, Tag, first_of, lines_of, value_at}
+use Rattle.message_tables.specs.Tables.{Said, Table, Tag, lines_of, value_at}
 use Rattle.order_meaning.specs.declared.fault.Lack.{Lack}
 use Rattle.order_meaning.specs.declared.fault.Lack.TheVariants as faults
 use Rattle.row_values.specs.CodeKinds.{kind_of}
@@ -46,15 +45,6 @@ writes own s (rules.By rule) = own s rule
 abbrev pub lacked : {B O : Type 0} → (Source B → O → Option ℕ) → Source B → CodeRule O → Option ℕ
 lacked own s (rules.By rule) = own s rule
 lacked own s rule = None
-
--- WHAT THE RULES FROM A PLACE ON write, and the first tag of those that they cannot say
-abbrev pub written : {B O : Type 0} → (Source B → O → List Field) → Source B → List (CodeRule O)
-    → ℕ → List ℕ
-written own s rules place = body_of (flat_map (writes own s) (drop place rules))
-
-abbrev pub lacking : {B O : Type 0} → (Source B → O → Option ℕ) → Source B → List (CodeRule O)
-    → ℕ → Option ℕ
-lacking own s rules place = first_of (lacked own s) (drop place rules)
 
 -- a lack of this tag; want of memory is free
 abbrev pub IsLackOf : Option ℕ → Lack → Type 0

@@ -18,4 +18,4 @@ pub use lacks::first_lack;
 pub use rules::{Lacking, OwnRule, Rule};
 pub use source::Source;
 pub use texts::{code_of, decimal_of, kept, number_of, put_decimal, put_moment};
-pub use writing::{put_in_line, put_rules};
+pub use writing::put_rules;

@@ -15,7 +15,7 @@ use field_groups::{Fields, is_type};
 use order_meaning::{Lack, Lines, PartyLine};
 use reports_fix50::{cancel_reject, execution_report};
 use row_values::read_lines;
-use rule_rows::{first_lack, put_in_line, put_rules};
+use rule_rows::{first_lack, put_rules};
 use std::alloc::Global;
 use translation::msg_type;
 
@@ -69,7 +69,7 @@ pub(crate) fn put_up(source: &Source<'_, '_>, out: &mut Vec<u8>) -> Result<(), L
         (Appends up source.now.fields.now None out.old.items out.new.items) }
     ensures lack { IfErr result (Lacks up source.now.fields.now) }
 {
-    put_in_line(source, request_rules(), out)?;
+    put_rules(source, request_rules(), out)?;
     match lack_of_roles(source) {
         None => Ok(()),
         Some(tag) => Err(Lack::Tag(tag)),
@@ -99,7 +99,7 @@ pub(crate) fn put_down(alloc: Global, fields: &Fields<'_>, out: &mut Vec<u8>) ->
                 has_terms: true,
             },
         };
-        put_in_line(&source, report_rules(), out)
+        put_rules(&source, report_rules(), out)
     } else {
         let source = Source {
             fields,

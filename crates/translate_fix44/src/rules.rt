@@ -155,7 +155,6 @@ static REJECT_RULES: [Rule; 10] = [
 ];
 
 /// The rules of a request.
-#[inline(always)]
 pub(crate) fn request_rules() -> &'static [Rule]
     ensures { (kind : RequestKind) → AreFor code (asked44 kind) up_rules result.now }
 {
@@ -163,7 +162,6 @@ pub(crate) fn request_rules() -> &'static [Rule]
 }
 
 /// The rules of an execution report.
-#[inline(always)]
 pub(crate) fn report_rules() -> &'static [Rule]
     ensures { AreFor code report_table (down_rules (rules.Same 41)) result.now }
 {

@@ -160,7 +160,6 @@ impl OwnRule<Besides> for Own {
 
     ghost lacks = { lacks };
 
-    #[inline(always)]
     fn put(&self, source: &Source<'_, '_>, out: &mut Vec<u8>) -> Result<(), Lack> {
         match self.lack(source) {
             Some(tag) => Err(Lack::Tag(tag)),

@@ -12,13 +12,13 @@ pub read_lines-requires : goal.read_lines-requires
 read_lines-requires c = few_parties c.args.fields.now
     (good_eight c.args.msg_type.now c.args.fields.now c.requires (sym c.if-is_type.ensures))
 
-pub put_in_line-requires : goal.put_in_line-requires
-put_in_line-requires c =
+pub put_rules-requires : goal.put_rules-requires
+put_rules-requires c =
     let P : Table Kind → Type 0 = λ t. IsTrue (have_written_lines t.items) in
     subst P (sym c.execution_report.ensures) refl
 
-pub put_rules-requires : goal.put_rules-requires
-put_rules-requires c =
+pub put_rules-requires-else-is_type : goal.put_rules-requires-else-is_type
+put_rules-requires-else-is_type c =
     let P : Table Kind → Type 0 = λ t. IsTrue (have_written_lines t.items) in
     subst P (sym c.cancel_reject.ensures) refl
 
@@ -30,8 +30,8 @@ returns-in_ok-parties-clause-ok c =
     (report_ruled c.args.msg_type.now s c.report_rules.result.now c.requires
     (sym c.if-is_type.ensures) c.execution_report.ensures c.in_ok-parties.ensures
     c.report_codes.ensures c.report_rules.ensures)
-    c.put_in_line.result c.args.out.now.items c.put_in_line.new.out.items c.put_in_line.ensures.said
-    c.put_in_line.ensures.done
+    c.put_rules.result c.args.out.now.items c.put_rules.new.out.items c.put_rules.ensures.said
+    c.put_rules.ensures.done
 
 pub returns-in_ok-parties-clause-lack : goal.returns-in_ok-parties-clause-lack
 returns-in_ok-parties-clause-lack c =
@@ -41,7 +41,7 @@ returns-in_ok-parties-clause-lack c =
     (report_ruled c.args.msg_type.now s c.report_rules.result.now c.requires
     (sym c.if-is_type.ensures) c.execution_report.ensures c.in_ok-parties.ensures
     c.report_codes.ensures c.report_rules.ensures)
-    c.put_in_line.result c.put_in_line.ensures.lack
+    c.put_rules.result c.put_rules.ensures.lack
 
 pub returns-else-is_type-clause-ok : goal.returns-else-is_type-clause-ok
 returns-else-is_type-clause-ok c =
@@ -51,8 +51,8 @@ returns-else-is_type-clause-ok c =
     (reject_ruled c.args.msg_type.now s c.reject_rules.result.now c.requires
     (sym c.if-is_type.ensures) c.cancel_reject.ensures c.reject_codes.ensures
     c.reject_rules.ensures)
-    c.put_rules.result c.args.out.now.items c.put_rules.new.out.items
-    c.put_rules.ensures.said c.put_rules.ensures.done
+    c.put_rules-else-is_type.result c.args.out.now.items c.put_rules-else-is_type.new.out.items
+    c.put_rules-else-is_type.ensures.said c.put_rules-else-is_type.ensures.done
 
 pub returns-else-is_type-clause-lack : goal.returns-else-is_type-clause-lack
 returns-else-is_type-clause-lack c =
@@ -62,4 +62,4 @@ returns-else-is_type-clause-lack c =
     (reject_ruled c.args.msg_type.now s c.reject_rules.result.now c.requires
     (sym c.if-is_type.ensures) c.cancel_reject.ensures c.reject_codes.ensures
     c.reject_rules.ensures)
-    c.put_rules.result c.put_rules.ensures.lack
+    c.put_rules-else-is_type.result c.put_rules-else-is_type.ensures.lack

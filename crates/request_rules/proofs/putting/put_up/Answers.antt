@@ -3,20 +3,20 @@ use Rattle.request_rules.specs.Good.{table}
 use Rattle.request_rules.proofs.PutUp.{known, lacking, put}
 use Rattle.request_rules.proofs.putting.put_up.Goals as goal
 
-pub put_in_line-requires : goal.put_in_line-requires
-put_in_line-requires c = (known (table c.args.good.now) c.requires.typed).written
+pub put_rules-requires : goal.put_rules-requires
+put_rules-requires c = (known (table c.args.good.now) c.requires.typed).written
 
 pub returns-clause-ok : goal.returns-clause-ok
 returns-clause-ok c =
     put (source_of c.args.good.now) c.requires.typed c.requires.none c.up_rules.result.now
     c.up_rules.ensures.rules c.up_rules.ensures.news c.up_rules.ensures.cancels
     c.up_rules.ensures.replaces c.up_rules.ensures.statuses
-    c.put_in_line.result c.args.out.now.items c.put_in_line.new.out.items
-    c.put_in_line.ensures.said c.put_in_line.ensures.done
+    c.put_rules.result c.args.out.now.items c.put_rules.new.out.items
+    c.put_rules.ensures.said c.put_rules.ensures.done
 
 pub returns-clause-lack : goal.returns-clause-lack
 returns-clause-lack c =
     lacking (source_of c.args.good.now) c.requires.typed c.requires.none c.up_rules.result.now
     c.up_rules.ensures.rules c.up_rules.ensures.news c.up_rules.ensures.cancels
     c.up_rules.ensures.replaces c.up_rules.ensures.statuses
-    c.put_in_line.result c.put_in_line.ensures.lack
+    c.put_rules.result c.put_rules.ensures.lack

@@ -15,11 +15,12 @@ read_lines-requires c =
     few_parties c.args.fields.now (eight c.args.fields.now c.requires c.msg_type.result.now
     c.msg_type.ensures (sym c.if-is_type.ensures)).1
 
-pub put_in_line-requires : goal.put_in_line-requires
-put_in_line-requires c = ap (λ t. have_written_lines t.items) c.execution_report.ensures
-
 pub put_rules-requires : goal.put_rules-requires
-put_rules-requires c = ap (λ t. have_written_lines t.items) c.cancel_reject.ensures
+put_rules-requires c = ap (λ t. have_written_lines t.items) c.execution_report.ensures
+
+pub put_rules-requires-else-is_type : goal.put_rules-requires-else-is_type
+put_rules-requires-else-is_type c =
+    ap (λ t. have_written_lines t.items) c.cancel_reject.ensures
 
 pub returns-in_ok-parties-clause-ok : goal.returns-in_ok-parties-clause-ok
 returns-in_ok-parties-clause-ok c =
@@ -29,8 +30,8 @@ returns-in_ok-parties-clause-ok c =
     on_ok s report_table c.execution_report.ensures _
     (known_report s c.in_ok-parties.ensures is.1 refl) (down_rules (Same 41))
     c.report_rules.result.now c.report_rules.ensures down (report_is c.args.fields.now is.0 is.1)
-    refl refl c.put_in_line.result c.args.out.now.items c.put_in_line.new.out.items
-    c.put_in_line.ensures.said c.put_in_line.ensures.done
+    refl refl c.put_rules.result c.args.out.now.items c.put_rules.new.out.items
+    c.put_rules.ensures.said c.put_rules.ensures.done
 
 pub returns-in_ok-parties-clause-lack : goal.returns-in_ok-parties-clause-lack
 returns-in_ok-parties-clause-lack c =
@@ -40,7 +41,7 @@ returns-in_ok-parties-clause-lack c =
     on_err s report_table c.execution_report.ensures _
     (known_report s c.in_ok-parties.ensures is.1 refl) (down_rules (Same 41))
     c.report_rules.result.now c.report_rules.ensures down (report_is c.args.fields.now is.0 is.1)
-    refl refl c.put_in_line.result c.put_in_line.ensures.lack
+    refl refl c.put_rules.result c.put_rules.ensures.lack
 
 pub returns-else-is_type-clause-ok : goal.returns-else-is_type-clause-ok
 returns-else-is_type-clause-ok c =
@@ -49,9 +50,9 @@ returns-else-is_type-clause-ok c =
     (sym c.if-is_type.ensures) in
     on_ok s cancel_reject_table c.cancel_reject.ensures _ (known_reject s is.1 refl)
     (down_rules (By (Else 41 None))) c.reject_rules.result.now c.reject_rules.ensures down
-    (reject_is c.args.fields.now is.0 is.1) refl refl c.put_rules.result
-    c.args.out.now.items c.put_rules.new.out.items
-    c.put_rules.ensures.said c.put_rules.ensures.done
+    (reject_is c.args.fields.now is.0 is.1) refl refl c.put_rules-else-is_type.result
+    c.args.out.now.items c.put_rules-else-is_type.new.out.items
+    c.put_rules-else-is_type.ensures.said c.put_rules-else-is_type.ensures.done
 
 pub returns-else-is_type-clause-lack : goal.returns-else-is_type-clause-lack
 returns-else-is_type-clause-lack c =
@@ -60,5 +61,5 @@ returns-else-is_type-clause-lack c =
     (sym c.if-is_type.ensures) in
     on_err s cancel_reject_table c.cancel_reject.ensures _ (known_reject s is.1 refl)
     (down_rules (By (Else 41 None))) c.reject_rules.result.now c.reject_rules.ensures down
-    (reject_is c.args.fields.now is.0 is.1) refl refl c.put_rules.result
-    c.put_rules.ensures.lack
+    (reject_is c.args.fields.now is.0 is.1) refl refl c.put_rules-else-is_type.result
+    c.put_rules-else-is_type.ensures.lack

@@ -3,7 +3,7 @@ use Rattle.std.proofs.lemmas.Result.{err_from_is_err_and}
 use Rattle.message_tables.proofs.Loops.{first_ended, first_none, first_passed}
 use Rattle.rule_rows.specs.CodeRules.{lacked, writes}
 use Rattle.rule_rows.proofs.Steps.{lack_found, next_written}
-use Rattle.rule_rows.proofs.writing.put_each.Goals as goal
+use Rattle.rule_rows.proofs.writing.put_all.Goals as goal
 
 pub loop-rule-init : goal.loop-rule-init
 loop-rule-init g c = record {

@@ -3,7 +3,7 @@ use Rattle.std.specs.List.{flat_map}
 use Rattle.field_groups.specs.Field.{body_of}
 use Rattle.message_tables.specs.Tables.{first_of}
 use Rattle.rule_rows.specs.CodeRules.{lacked, writes}
-use Rattle.rule_rows.proofs.writing.put_each.Given as goal
+use Rattle.rule_rows.proofs.writing.put_all.Given as goal
 
 abbrev pub invariant-loop-rule : goal.invariant-loop-rule
 invariant-loop-rule g l = record {
