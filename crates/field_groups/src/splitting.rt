@@ -65,25 +65,7 @@ fn digit_at(bytes: &[u8], place: usize) -> Option<u32>
     ensures digit { IfSome result (λ digit. digit ≡ slice_index bytes.now place - 48) }
     ensures small { IfSome result (λ digit. digit ≤ 9) }
 {
-    match bytes.get(place) {
-        Some(byte) => digit_of(*byte),
-        None => None,
-    }
-}
-
-/// The number of a digit that is not 0; `None` of any other byte.
-#[inline(always)]
-fn lead_of(byte: u8) -> Option<u32>
-    ensures some { IfSome result (λ digit. is_ascii_digit byte ≡ true) }
-    ensures digit { IfSome result (λ digit. digit ≡ byte - 48) }
-    ensures small { IfSome result (λ digit. digit ≤ 9) }
-    ensures lead { IfSome result (λ digit. 49 ≤ byte) }
-{
-    if byte < b'1' || byte > b'9' {
-        None
-    } else {
-        Some(byte as u32 - 48)
-    }
+    digit_of(*bytes.get(place)?)
 }
 
 /// The digit at the front, where one stands there that is not 0.
@@ -95,8 +77,8 @@ fn lead_digit(bytes: &[u8]) -> Option<u32>
     ensures lead { IfSome result (λ digit. 49 ≤ slice_index bytes.now 0) }
 {
     match bytes.get(0) {
-        Some(byte) => lead_of(*byte),
-        None => None,
+        Some(byte @ b'1'..=b'9') => digit_of(*byte),
+        _ => None,
     }
 }
 
@@ -163,13 +145,9 @@ fn two_digits(bytes: &[u8]) -> Option<u32>
     if !is_equals_at(bytes, 2) {
         return None;
     }
-    match lead_digit(bytes) {
-        None => None,
-        Some(ten) => match digit_at(bytes, 1) {
-            None => None,
-            Some(one) => Some(10 * ten + one),
-        },
-    }
+    let ten = lead_digit(bytes)?;
+    let one = digit_at(bytes, 1)?;
+    Some(10 * ten + one)
 }
 
 /// A good tag of two digits at the front, as most have, and what is left after its `=`.
@@ -180,10 +158,8 @@ fn short_tag(bytes: &[u8]) -> Option<(u32, &[u8])>
     ensures tag { IfSome result (λ tag. tag.0 ≡ front_tag bytes.now) }
     ensures rest { IfSome result (λ tag. tag.1.now ≡ after_tag bytes.now) }
 {
-    match two_digits(bytes) {
-        None => None,
-        Some(tag) => Some((tag, &bytes[3..])),
-    }
+    let tag = two_digits(bytes)?;
+    Some((tag, &bytes[3..]))
 }
 
 /// The number of the three digits at the front, likewise.
@@ -199,16 +175,10 @@ fn three_digits(bytes: &[u8]) -> Option<u32>
     if !is_equals_at(bytes, 3) {
         return None;
     }
-    match lead_digit(bytes) {
-        None => None,
-        Some(hundred) => match digit_at(bytes, 1) {
-            None => None,
-            Some(ten) => match digit_at(bytes, 2) {
-                None => None,
-                Some(one) => Some(100 * hundred + 10 * ten + one),
-            },
-        },
-    }
+    let hundred = lead_digit(bytes)?;
+    let ten = digit_at(bytes, 1)?;
+    let one = digit_at(bytes, 2)?;
+    Some(100 * hundred + 10 * ten + one)
 }
 
 /// A good tag of three digits at the front, and what is left after its `=`.
@@ -219,10 +189,8 @@ fn longer_tag(bytes: &[u8]) -> Option<(u32, &[u8])>
     ensures tag { IfSome result (λ tag. tag.0 ≡ front_tag bytes.now) }
     ensures rest { IfSome result (λ tag. tag.1.now ≡ after_tag bytes.now) }
 {
-    match three_digits(bytes) {
-        None => None,
-        Some(tag) => Some((tag, &bytes[4..])),
-    }
+    let tag = three_digits(bytes)?;
+    Some((tag, &bytes[4..]))
 }
 
 /// Why there is no good tag at the front. The field begins at this place of the body.

@@ -16,50 +16,6 @@ const DIGITS: usize = 10;
 /// The most bytes of a field besides its value: a tag, `=` and SOH.
 pub const AROUND: usize = DIGITS + 2;
 
-/// Appends a number of one digit.
-#[inline(always)]
-#[tactic(auto, using(crate::proofs::NumberDigits::one_pushed))]
-fn push_one(out: &mut Vec<u8>, number: u32)
-    requires to { number < 10 }
-    requires room { vec_len out.old + DIGITS ≤ vec_capacity out.old }
-    ensures items { out.new.items ≡ out.old.items ++ decimal number }
-    ensures len { vec_len out.new ≤ vec_len out.old + DIGITS }
-    ensures capacity { vec_capacity out.old ≤ vec_capacity out.new }
-{
-    out.push_reserved(b'0' + number as u8);
-}
-
-/// Appends a number of two digits.
-#[inline(always)]
-#[tactic(auto, using(crate::proofs::NumberDigits::two_pushed))]
-fn push_two(out: &mut Vec<u8>, number: u32)
-    requires from { 10 ≤ number }
-    requires to { number < 100 }
-    requires room { vec_len out.old + DIGITS ≤ vec_capacity out.old }
-    ensures items { out.new.items ≡ out.old.items ++ decimal number }
-    ensures len { vec_len out.new ≤ vec_len out.old + DIGITS }
-    ensures capacity { vec_capacity out.old ≤ vec_capacity out.new }
-{
-    out.push_reserved(b'0' + (number / 10) as u8);
-    out.push_reserved(b'0' + (number % 10) as u8);
-}
-
-/// Appends a number of three digits.
-#[inline(always)]
-#[tactic(auto, using(crate::proofs::NumberDigits::three_pushed))]
-fn push_three(out: &mut Vec<u8>, number: u32)
-    requires from { 100 ≤ number }
-    requires to { number < 1000 }
-    requires room { vec_len out.old + DIGITS ≤ vec_capacity out.old }
-    ensures items { out.new.items ≡ out.old.items ++ decimal number }
-    ensures len { vec_len out.new ≤ vec_len out.old + DIGITS }
-    ensures capacity { vec_capacity out.old ≤ vec_capacity out.new }
-{
-    out.push_reserved(b'0' + (number / 100) as u8);
-    out.push_reserved(b'0' + (number / 10 % 10) as u8);
-    out.push_reserved(b'0' + (number % 10) as u8);
-}
-
 /// Appends a number of any length.
 #[inline(never)]
 fn push_any(out: &mut Vec<u8>, number: u32)
@@ -74,6 +30,12 @@ fn push_any(out: &mut Vec<u8>, number: u32)
 
 /// Appends a number in digits, where there is room. Those of most tags are written one by one.
 #[inline(always)]
+#[tactic(auto, using(
+    crate::proofs::NumberDigits::one_pushed,
+    crate::proofs::NumberDigits::two_pushed,
+    crate::proofs::NumberDigits::three_pushed,
+))]
+#[rattlefmt::skip]
 fn push_number(out: &mut Vec<u8>, number: u32)
     requires room { vec_len out.old + DIGITS ≤ vec_capacity out.old }
     ensures items { out.new.items ≡ out.old.items ++ decimal number }
@@ -81,11 +43,14 @@ fn push_number(out: &mut Vec<u8>, number: u32)
     ensures capacity { vec_capacity out.old ≤ vec_capacity out.new }
 {
     if number < 10 {
-        push_one(out, number)
+        out.push_reserved(b'0' + number as u8);
     } else if number < 100 {
-        push_two(out, number)
+        out.push_reserved(b'0' + (number / 10) as u8);
+        out.push_reserved(b'0' + (number % 10) as u8);
     } else if number < 1000 {
-        push_three(out, number)
+        out.push_reserved(b'0' + (number / 100) as u8);
+        out.push_reserved(b'0' + (number / 10 % 10) as u8);
+        out.push_reserved(b'0' + (number % 10) as u8);
     } else {
         push_any(out, number)
     }
@@ -137,61 +102,19 @@ fn push_copied(out: &mut Vec<u8>, value: &[u8])
     out.push_reserved(SOH);
 }
 
-/// Appends two bytes.
-#[inline(always)]
-fn push_pair(out: &mut Vec<u8>, first: u8, second: u8)
-    requires { vec_len out.old + 2 ≤ vec_capacity out.old }
-    ensures items { out.new.items ≡ out.old.items ++ first ∷ second ∷ [] }
-    ensures len { vec_len out.new ≡ vec_len out.old + 2 }
-    ensures capacity { vec_capacity out.new ≡ vec_capacity out.old }
-{
-    out.push_reserved(first);
-    out.push_reserved(second);
-}
-
-/// Appends four bytes.
-#[inline(always)]
-fn push_four(out: &mut Vec<u8>, first: u8, second: u8, third: u8, fourth: u8)
-    requires { vec_len out.old + 4 ≤ vec_capacity out.old }
-    ensures items { out.new.items ≡ out.old.items ++ first ∷ second ∷ third ∷ fourth ∷ [] }
-    ensures len { vec_len out.new ≡ vec_len out.old + 4 }
-    ensures capacity { vec_capacity out.new ≡ vec_capacity out.old }
-{
-    push_pair(out, first, second);
-    push_pair(out, third, fourth);
-}
-
 /// Appends a value and SOH, where there is room for both: a short one with no call that copies.
 #[inline(never)]
 fn push_value(out: &mut Vec<u8>, value: &[u8])
     requires { vec_len out.old + length value.now < vec_capacity out.old }
     ensures { out.new.items ≡ out.old.items ++ (value.now ++ SOH ∷ []) }
 {
-    match value {
-        [a] => push_pair(out, *a, SOH),
-        [a, b] => {
-            push_pair(out, *a, *b);
-            out.push_reserved(SOH)
+    if value.len() < 8 {
+        for byte in value {
+            out.push_reserved(*byte);
         }
-        [a, b, c] => push_four(out, *a, *b, *c, SOH),
-        [a, b, c, d] => {
-            push_four(out, *a, *b, *c, *d);
-            out.push_reserved(SOH)
-        }
-        [a, b, c, d, e] => {
-            push_four(out, *a, *b, *c, *d);
-            push_pair(out, *e, SOH)
-        }
-        [a, b, c, d, e, f] => {
-            push_four(out, *a, *b, *c, *d);
-            push_pair(out, *e, *f);
-            out.push_reserved(SOH)
-        }
-        [a, b, c, d, e, f, g] => {
-            push_four(out, *a, *b, *c, *d);
-            push_four(out, *e, *f, *g, SOH)
-        }
-        _ => push_copied(out, value),
+        out.push_reserved(SOH);
+    } else {
+        push_copied(out, value);
     }
 }
 
@@ -263,7 +186,8 @@ pub fn put_byte(out: &mut Vec<u8>, tag: u32, byte: u8) -> Result<(), AllocError>
 {
     if tag < 1000 && has_room(out, AROUND + 1) {
         push_tag(out, tag);
-        push_pair(out, byte, SOH);
+        out.push_reserved(byte);
+        out.push_reserved(SOH);
         Ok(())
     } else {
         put_grown(out, tag, &[byte])
