@@ -140,10 +140,10 @@ fn units_behind(bytes: &[u8]) -> Option<(usize, u64)>
     Some((places, fraction * ten_to(MAX_PLACES - places)))
 }
 
-/// The units of digits, of which at most eight stand behind a point, as most numbers are spelled;
-/// `None` where the bytes are more than that.
+/// The units of 10^-8 of digits, of which at most eight stand behind a point, as most numbers are
+/// spelled; `None` where the bytes are more than that.
 #[inline(always)]
-fn plain_units(bytes: &[u8]) -> Option<u128>
+pub fn plain_units(bytes: &[u8]) -> Option<u128>
     ensures { IfSome result (ReadsPlain bytes.now) }
 {
     let (len, whole) = front_digits(bytes);

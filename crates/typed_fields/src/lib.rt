@@ -20,7 +20,7 @@ mod stamp;
 mod value;
 
 pub use day::Day;
-pub use dec::{Dec, has_minus, point_in};
+pub use dec::{Dec, has_minus, plain_units, point_in};
 pub use digits::{are_digits, two_digits};
 pub use fault::FieldFault;
 pub use flag::Flag;

@@ -25,7 +25,7 @@ ghost use Rattle.value_kinds.specs.CodeKinds.{is_byte_kind};
 
 use jiff::civil::Date;
 use typed_fields::laws::spellings_are_plain;
-use typed_fields::{Day, Dec, FieldFault, Flag, MonthYear, Number, Stamp, has_minus};
+use typed_fields::{Day, Dec, FieldFault, Flag, MonthYear, Number, Stamp, has_minus, plain_units};
 
 /// The most bytes of an id.
 const MAX_ID: usize = 128;
@@ -259,6 +259,17 @@ fn judge_signed(value: &[u8]) -> Result<bool, FieldFault>
 fn judge_price(value: &[u8]) -> Result<bool, FieldFault>
     ensures { result ≡ judged (spelt dec_text (read_dec value.now)) }
 {
+    match plain_units(value) {
+        Some(_) => Ok(true),
+        None => judge_respelled(value),
+    }
+}
+
+/// The same of bytes that may have a sign, and zeros that do not count.
+#[inline(never)]
+fn judge_respelled(value: &[u8]) -> Result<bool, FieldFault>
+    ensures { result ≡ judged (spelt dec_text (read_dec value.now)) }
+{
     is_read(Dec::read(value))
 }
 
@@ -340,12 +351,15 @@ impl ValueKind {
         match self {
             ValueKind::Filled => true,
             ValueKind::Id => value.len() <= MAX_ID,
+            ValueKind::Text => value.len() <= MAX_TEXT,
+            ValueKind::OneByte => value.len() == 1,
             ValueKind::Code(listed) => is_code(listed, value),
             ValueKind::Known(listed) => is_code(listed, value),
             ValueKind::Qty => is_good(judge_qty(value)),
             ValueKind::Price => is_good(judge_price(value)),
             ValueKind::Stamp => is_good(judge_stamp(value)),
             ValueKind::FineStamp => is_good(judge_fine_stamp(value)),
+            ValueKind::Day => is_good(judge_date(value)),
             _ => is_good(self.judge_any(value)),
         }
     }
