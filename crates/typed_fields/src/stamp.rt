@@ -87,8 +87,8 @@ pub struct Stamp {
 }
 
 /// Whether bytes have the form of whole seconds: with a zero for each digit, the first sixteen are
-/// one text. It stands once for all forms.
-#[inline(never)]
+/// one text.
+#[inline(always)]
 fn has_seconds(bytes: &[u8]) -> bool
     ensures { result ≡ has_pattern (codes "YYYYMMDD-HH:MM:SS") bytes.now }
 {
