@@ -1,6 +1,6 @@
 //! The bytes of a frame that its kind, or the bytes before them, determine.
 ghost use Rattle.std.specs.Prelude.{◌≡◌, ◌%◌, ◌++◌, ◌∷◌, [], codes, sum};
-ghost use Rattle.frame_grammar.specs.Frame.{begin_string, opening, three_digits, trailer};
+ghost use Rattle.frame_grammar.specs.Frame.{begin_string, three_digits, trailer};
 
 use crate::Kind;
 use crate::frame::SOH;
@@ -14,17 +14,6 @@ pub fn begin_string_of(kind: Kind) -> &'static [u8]
         Kind::Fix42 => b"8=FIX.4.2\x01",
         Kind::Fix44 => b"8=FIX.4.4\x01",
         Kind::Fixt11 => b"8=FIXT.1.1\x01",
-    }
-}
-
-/// The BeginString of a kind, and the tag of BodyLength(9) behind it.
-pub(crate) fn opening_of(kind: Kind) -> &'static [u8]
-    ensures { result.now ≡ opening kind }
-{
-    match kind {
-        Kind::Fix42 => b"8=FIX.4.2\x019=",
-        Kind::Fix44 => b"8=FIX.4.4\x019=",
-        Kind::Fixt11 => b"8=FIXT.1.1\x019=",
     }
 }
 

@@ -1,26 +1,67 @@
 //! Writing a frame.
-ghost use Rattle.std.specs.Prelude.{◌≡◌, ◌↔◌, ◌<◌, ◌++◌, ℕ, List, length, take, Err, OnOk, OnErr};
-ghost use Rattle.frame_grammar.specs.Frame.{IsWritable, IsFrame, frame_of, front, trailer};
+ghost use Rattle.std.specs.Prelude.{◌≡◌, ◌↔◌, ◌+◌, ◌<◌, ◌≤◌, ◌++◌, ◌∷◌, [], ℕ, List, decimal};
+ghost use Rattle.std.specs.Prelude.{drop, length, take, Err, OnOk, OnErr};
+ghost use Rattle.frame_grammar.specs.Frame.{IsWritable, IsFrame, frame_of, opening};
 ghost use Rattle.frame_grammar.specs.Found.{Whole, found};
 
-use crate::checksum::{opening_of, trailer_of};
+use crate::checksum::trailer_of;
 use crate::frame::{MAX_BODY, SOH};
 use crate::{FrameError, Kind};
-use itoa::Buffer;
+use itoa::write_digits;
 use std::alloc::AllocError;
 
-// Appends the frame of a body, whose length these digits say. It leaves what was there at the
-// front.
-fn append(kind: Kind, digits: &[u8], body: &[u8], out: &mut Vec<u8>) -> Result<(), AllocError>
+// The most bytes before a body: the longest opening, four digits, SOH.
+const FRONT: usize = 18;
+
+// Puts a text into a buffer so that it ends at a place, and answers where it begins.
+#[inline(always)]
+fn put_before(text: &[u8], buffer: &mut [u8], end: usize) -> usize
+    requires room { length text.now ≤ end }
+    requires within { end ≤ length buffer.old }
+    ensures start { result + length text.now ≡ end }
+    ensures put { drop result buffer.new ≡ text.now ++ drop end buffer.old }
+{
+    let start = end - text.len();
+    buffer[start..end].copy_from_slice(text);
+    start
+}
+
+// The same of the opening of a kind. Each text is known where it is copied.
+#[inline(always)]
+fn put_opening(kind: Kind, buffer: &mut [u8], end: usize) -> usize
+    requires room { 13 ≤ end }
+    requires within { end ≤ length buffer.old }
+    ensures { drop result buffer.new ≡ opening kind ++ drop end buffer.old }
+{
+    match kind {
+        Kind::Fix42 => put_before(b"8=FIX.4.2\x019=", buffer, end),
+        Kind::Fix44 => put_before(b"8=FIX.4.4\x019=", buffer, end),
+        Kind::Fixt11 => put_before(b"8=FIXT.1.1\x019=", buffer, end),
+    }
+}
+
+// Appends what stands before a body of this length, in one piece.
+#[inline(always)]
+fn append_front(kind: Kind, len: usize, out: &mut Vec<u8>) -> Result<(), AllocError>
+    requires { len ≤ MAX_BODY }
     ensures ok { OnOk result (out.new.items ≡
-        out.old.items ++
-        (front kind digits.now body.now ++ trailer (front kind digits.now body.now))) }
+        out.old.items ++ opening kind ++ decimal len ++ SOH ∷ []) }
+    ensures err { OnErr result (out.new.items ≡ out.old.items) }
+{
+    let mut front = [SOH; FRONT];
+    let digits = write_digits(len as u64, &mut front, FRONT - 1);
+    let start = put_opening(kind, &mut front, digits);
+    out.extend_from_slice(&front[start..])
+}
+
+// Appends the frame of a body. It leaves what was there at the front.
+fn append(kind: Kind, body: &[u8], out: &mut Vec<u8>) -> Result<(), AllocError>
+    requires { length body.now ≤ MAX_BODY }
+    ensures ok { OnOk result (out.new.items ≡ out.old.items ++ frame_of kind body.now) }
     ensures kept { take (length out.old.items) out.new.items ≡ out.old.items }
 {
     let start = out.len();
-    out.extend_from_slice(opening_of(kind))?;
-    out.extend_from_slice(digits)?;
-    out.push(SOH)?;
+    append_front(kind, body.len(), out)?;
     out.extend_from_slice(body)?;
     let last = trailer_of(&out[start..]);
     out.extend_from_slice(&last)
@@ -46,10 +87,8 @@ pub fn write_frame(kind: Kind, body: &[u8], out: &mut Vec<u8>) -> Result<(), Fra
     if body.len() > MAX_BODY {
         return Err(FrameError::TooLong);
     }
-    let mut buffer = Buffer::new();
-    let digits = buffer.format(body.len()).as_bytes();
     let start = out.len();
-    if append(kind, digits, body, out).is_err() {
+    if append(kind, body, out).is_err() {
         out.truncate(start);
         return Err(FrameError::NoMemory);
     }
