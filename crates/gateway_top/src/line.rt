@@ -1,6 +1,6 @@
 //! The lines that `check` prints.
 
-ghost use Rattle.std.specs.Prelude.{◌≡◌, ◌==◌, ◌++◌, ◌∷◌, [], position, decimal, OnOk};
+ghost use Rattle.std.specs.Prelude.{◌≡◌, ◌==◌, ◌≤◌, ◌++◌, ◌∷◌, [], position, decimal, length, OnOk};
 ghost use Rattle.gateway_top.specs.MsgType.{type_in};
 ghost use Rattle.gateway_top.specs.Line.{LF, head, tag_words, no_counterpart, finding_words};
 ghost use Rattle.gateway_top.specs.Line.{cause_name};
@@ -8,8 +8,12 @@ ghost use Rattle.gateway_top.specs.Line.{frame_line, garbled_line, inside_line};
 
 use crate::finding::Finding;
 use frame_grammar::{Garble, SOH};
-use itoa::Buffer;
+use itoa::{Buffer, write_digits};
 use std::alloc::AllocError;
+
+/// The most bytes of what a line begins with: two numbers of 20 digits, nine bytes between them,
+/// and one byte behind.
+const HEAD: usize = 50;
 
 /// The place of the first SOH.
 fn first_soh(bytes: &[u8]) -> Option<usize>
@@ -51,21 +55,30 @@ fn append_number(number: u64, out: &mut Vec<u8>) -> Result<(), AllocError>
     out.extend_from_slice(Buffer::new().format(number).as_bytes())
 }
 
-/// Appends what each line begins with: the place of a piece, what it is, and its length.
+/// Appends what each line begins with, and a byte behind it: the place of a piece, what it is, and
+/// its length.
 #[inline(always)]
-fn append_head(at: u64, what: &[u8], len: u64, out: &mut Vec<u8>) -> Result<(), AllocError>
-    ensures { OnOk result (out.new.items ≡ out.old.items ++ head at what.now len) }
+fn append_head(at: u64, what: &[u8], len: u64, end: u8, out: &mut Vec<u8>) -> Result<(), AllocError>
+    requires { length what.now ≤ 9 }
+    ensures { OnOk result (out.new.items ≡ out.old.items ++ head at what.now len ++ end ∷ []) }
 {
-    append_number(at, out)?;
-    out.extend_from_slice(what)?;
-    append_number(len, out)
+    let mut line = [end; HEAD];
+    let behind = write_digits(len, &mut line, HEAD - 1);
+    let start = behind - what.len();
+    line[start..behind].copy_from_slice(what);
+    let first = write_digits(at, &mut line, start);
+    out.extend_from_slice(&line[first..])
 }
 
-/// Appends a text.
+/// Appends a text. One byte, as the type of most messages, is put with no call that copies.
+#[inline(always)]
 fn append_text(text: &[u8], out: &mut Vec<u8>) -> Result<(), AllocError>
     ensures { OnOk result (out.new.items ≡ out.old.items ++ text.now) }
 {
-    out.extend_from_slice(text)
+    match text {
+        [only] => Ok(out.push(*only)?),
+        _ => out.extend_from_slice(text),
+    }
 }
 
 /// Appends the tag at which something is found.
@@ -116,9 +129,8 @@ pub(crate) fn append_frame(
 ) -> Result<(), AllocError>
     ensures { OnOk result (out.new.items ≡ out.old.items ++ frame_line at len body.now finding) }
 {
-    append_head(at, b" frame ", len, out)?;
-    out.push(b' ')?;
-    out.extend_from_slice(type_in(body))?;
+    append_head(at, b" frame ", len, b' ', out)?;
+    append_text(type_in(body), out)?;
     append_finding(finding, out)
 }
 
@@ -132,11 +144,9 @@ pub(crate) fn append_garbled(
 ) -> Result<(), AllocError>
     ensures { OnOk result (out.new.items ≡ out.old.items ++ garbled_line at len cause) }
 {
-    append_head(at, b" garbled ", len, out)?;
-    out.push(b' ')?;
-    out.extend_from_slice(cause_name(cause))?;
-    out.push(b'\n')?;
-    Ok(())
+    append_head(at, b" garbled ", len, b' ', out)?;
+    append_text(cause_name(cause), out)?;
+    append_text(b"\n", out)
 }
 
 /// Appends the line of the input's end inside a frame: where that begins, and how many bytes of it
@@ -145,7 +155,5 @@ pub(crate) fn append_garbled(
 pub(crate) fn append_inside(at: u64, len: u64, out: &mut Vec<u8>) -> Result<(), AllocError>
     ensures { OnOk result (out.new.items ≡ out.old.items ++ inside_line at len) }
 {
-    append_head(at, b" inside ", len, out)?;
-    out.push(b'\n')?;
-    Ok(())
+    append_head(at, b" inside ", len, b'\n', out)
 }
