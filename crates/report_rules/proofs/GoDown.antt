@@ -17,17 +17,16 @@ use Rattle.sound_laws.specs.Sound.{IsSound, without_resend}
 use Rattle.sound_laws.proofs.ContentAgain.{read_again}
 use Rattle.sound_laws.proofs.Each.{◌&◌}
 use Rattle.rule_rows.specs.ByRules.{by_rules, content_by, lack_by}
-use Rattle.rule_rows.proofs.Made.{content_made}
-use Rattle.rule_rows.proofs.Said as source
 use Rattle.rule_rows.proofs.Looked.{AreOwn}
+use Rattle.rule_rows.proofs.Sound.{written}
 use Rattle.report_rules.specs.Rules.{Rule, Same, Original, down_message, down_rules, kinds}
 use Rattle.report_rules.specs.Rules.{rules_for, table_at}
 use Rattle.report_rules.specs.Down.{GoDown, IsId, IsOrdinary, IsReport50, Reports42, Rejects42}
 use Rattle.report_rules.specs.Down.{Reports50, Rejects50, StandsFor, IsReport42}
-use Rattle.report_rules.proofs.KindsDown.{are_kinds, report_own, reject_own}
+use Rattle.report_rules.proofs.KindsDown.{report_own, reject_own}
 use Rattle.report_rules.proofs.SenseDown.{keeps_books, keeps_sense, has_codes, not_lacking}
 use Rattle.report_rules.proofs.SoundDown.{ordinary_by, sound_down}
-use Rattle.report_rules.proofs.SoundDown.{GoesDown, each_made, items_down, make}
+use Rattle.report_rules.proofs.SoundDown.{GoesDown, g, items_down}
 use Rattle.rows_fix42.specs.Header.{table as table42}
 use Rattle.rows_fix50.specs.Header.{table as table50}
 
@@ -122,9 +121,7 @@ module _ (original : Rule) (own : AreOwn kinds (down_rules original)) (letter : 
   by_these : content client w ≡ content_by kinds (down_rules original) m
   by_these =
       let P : Message → Type 0 = λ x. content client x ≡ content_by kinds (down_rules original) m in
-      subst P d.is (sym (content_made kinds items (make items) m
-      (source.outline_is (table50 letter items) m c.sound) are_kinds (down_rules original) own
-      (each_made items)))
+      subst P d.is (sym (written (g (down_rules original) own letter items goes m c.sound c.month)))
 
   abbrev IsAgain : ℕ → Type 0
   IsAgain l = message42 (l ∷ []) (content (table_at l) w) None ≡ Ok (without_resend w)

@@ -15,7 +15,7 @@ use Rattle.value_kinds.specs.ValueKind.{Day, Known, spelling}
 use Rattle.row_values.specs.Kinds.{Kind, Value, date_at, judge, row, verdict_of}
 use Rattle.rows_fix50.specs.Header.{completed, month_by}
 use Rattle.reports_fix50.specs.Message.{message50, report_by, report_table, cancel_reject_table}
-use Rattle.reports_fix50.specs.Reports.{execution_report, cancel_reject}
+use Rattle.reports_fix50.specs.Reports.{execution_report}
 use Rattle.sound_laws.specs.Sound.{IsSaid, IsSound}
 use Rattle.sound_laws.specs.Complete.{HasMonthOfDate, IsComplete}
 use Rattle.sound_laws.proofs.Completed.{completed_again}
@@ -23,9 +23,8 @@ use Rattle.sound_laws.proofs.Lookups.{places_apart}
 use Rattle.sound_laws.proofs.PlainFields.{clear_fields}
 use Rattle.sound_laws.proofs.RowsSaid.{row_said}
 use Rattle.sound_laws.proofs.ContentValues.{groups_said, value_said}
-use Rattle.sound_laws.proofs.PlainRows.{contras_apart, contras_plain, parties_apart, parties_plain}
-use Rattle.sound_laws.proofs.PlainRows.{plain_items, plain_stables, spelled}
-use Rattle.sound_laws.proofs.ReadSound.{IsClearField, read_sound}
+use Rattle.sound_laws.proofs.PlainRows.{is_plain_row, plain_row, spelled, tests_sound}
+use Rattle.sound_laws.proofs.ReadSound.{IsClearField}
 use Rattle.sound_laws.proofs.SpelledAgain.{own_bytes}
 use Rattle.rule_rows.proofs.Said as source
 use Rattle.report_rules.specs.Down.{IsReport50, IsReportType, Reports50, Rejects50, Type8, Type9}
@@ -68,8 +67,6 @@ module _ (fields : List Field) (clear : AllByRecursion (IsClearField judge) fiel
   unfolding is_data_tag
   dated = record {
     fits = refl;
-    apart = (parties_apart, (contras_apart, tt));
-    plain = (parties_plain, (contras_plain, tt));
     date = refl;
     types = λ there. (refl, refl);
     kept = λ groups. type_again _ fields
@@ -80,10 +77,10 @@ module _ (fields : List Field) (clear : AllByRecursion (IsClearField judge) fiel
   reject_sound : first_fault judge cancel_reject_table fields ≡ None
       → IsSound judge cancel_reject_table (message_in judge cancel_reject_table fields)
   unfolding is_data_tag
-  reject_sound none = read_sound judge cancel_reject_table fields
-      (record { rows = refl; places = refl; counts = refl; plain = tt })
-      (plain_items cancel_reject_table fields cancel_reject tt)
-      (λ groups. plain_stables cancel_reject_table fields cancel_reject refl) clear none
+  reject_sound = tests_sound cancel_reject_table fields is_plain_row
+      (refl, (refl, (refl, (refl, (refl, tt)))))
+      (λ groups row h. (plain_row row h).stable fields (content cancel_reject_table
+      (message_in judge cancel_reject_table fields))) clear
 
 -- ---- a report that was read
 

@@ -172,7 +172,7 @@ module _ (all : List Rule) (own : AreOwn kinds all) (letter : ℕ) (items : List
     (goes : GoesDown all items) (m : Message) (sound : IsSound judge (table50 letter items) m)
     (month : said_at m.cells (Tag 200) ≡ month_by (said_at m.cells (Tag 541)) (said_at m.cells (Tag 200)))
   where
-    abbrev g : Goes Rule
+    abbrev pub g : Goes Rule
     g = record {
       kinds = kinds;
       are = are_kinds;

@@ -1,12 +1,12 @@
 -- What goes up of a request stands for it: the four tables.
 use Rattle.std.proofs.Common.{◌≡◌, ℕ, List, [], ◌∷◌, length, true, false, Some, None, refl, sym, ap}
 use Rattle.std.proofs.Common.{subst, ◌∙◌, codes}
-use Rattle.std.specs.Prelude.{IfSome, Ok, ◌==◌}
+use Rattle.std.specs.Prelude.{IfSome, ◌==◌}
 use Rattle.std.specs.List.{flat_map}
 use Rattle.std.specs.Str.Parse.{digits_value}
 use Rattle.field_groups.specs.Field.{Field}
 use Rattle.value_kinds.specs.ValueKind.{Code, MonthYear, number_of_two}
-use Rattle.message_tables.specs.Tables.{Item, Message, Said, Spells, Tag, Role, ◌>>=◌, code_of}
+use Rattle.message_tables.specs.Tables.{Item, Message, Said, Spells, Table, Role, ◌>>=◌, code_of}
 use Rattle.message_tables.specs.Tables.{is_one_of}
 use Rattle.message_tables.specs.FirstFault.{message_of}
 use Rattle.message_tables.specs.Content.{content}
@@ -18,14 +18,13 @@ use Rattle.rows_fix50.specs.Header.{completed_by, month_by, table as table50}
 use Rattle.dict_fix42.specs.Sense as sense42
 use Rattle.dict_fix42.specs.Sense.{request42}
 use Rattle.dict_fix50.specs.Message.{message50}
-use Rattle.sound_laws.specs.Sound.{IsSound, without_resend}
-use Rattle.sound_laws.proofs.ContentAgain.{content_again}
+use Rattle.sound_laws.specs.Sound.{IsSound}
+use Rattle.sound_laws.proofs.ContentAgain.{IsGone}
 use Rattle.sound_laws.proofs.PlainFields.{clear_fields}
 use Rattle.sound_laws.proofs.Stages.{item_tags}
 use Rattle.sound_laws.proofs.TableFits.{table_fits}
 use Rattle.rule_rows.proofs.Looked.{has_lines_of, says}
-use Rattle.rule_rows.proofs.Made.{content_made}
-use Rattle.rule_rows.proofs.Said as source
+use Rattle.rule_rows.proofs.Sound.{gone}
 use Rattle.request_rules.specs.Canonical.{IsCanonical, IsRequest}
 use Rattle.request_rules.specs.Canonical as canonical
 use Rattle.request_rules.specs.Lack.{lack42, lack_of}
@@ -38,7 +37,7 @@ use Rattle.request_rules.proofs.ByType.{asked, asked42, items42, letter_of}
 use Rattle.request_rules.proofs.KindsUp.{are_kinds, own}
 use Rattle.request_rules.proofs.LacksUp.{lack_is}
 use Rattle.request_rules.proofs.SenseUp.{keeps_sense}
-use Rattle.request_rules.proofs.SoundUp.{GoesUp, each_made, items_up, make, sound_up, month42}
+use Rattle.request_rules.proofs.SoundUp.{GoesUp, g, items_up, sound_up, month42}
 use Rattle.request_rules.proofs.SoundUp.{day42, time42}
 use Rattle.request_rules.proofs.Sound42.{read_is_sound}
 use Rattle.sound_laws.proofs.RowsSaid.{is_code_of}
@@ -113,40 +112,34 @@ module _ (kind : RequestKind)
       ∙ is (λ k. sense42.request_of k m) in
       sym (lack_is kind m) ∙ (sym (ap (λ r. r >>= lack_of) request) ∙ lack)
 
+  abbrev t : Table Kind
+  t = table50 letter (items_up items)
+
+  gone_up : IsGone t (up_message m) (up_content m)
+  gone_up = gone (g letter items goes m sound) fit bare (sound_up letter items goes m sound no_lack)
+      (date_up (at m 200) (at m 205)) (at m 200) refl refl
+      (month_of_date (at m 200) (at m 205) ordinary.month)
+
   as_canonical : IsCanonical letter (items_up items) (up_message m)
   as_canonical = record {
-    sound = sound_up letter items goes m sound no_lack;
-    month = says kinds are_kinds up_rules own m (Tag 200)
-        ∙ month_of_date (at m 200) (at m 205) ordinary.month
-        ∙ sym (λ i. month_by (says kinds are_kinds up_rules own m (Tag 541) i)
-        (says kinds are_kinds up_rules own m (Tag 200) i));
+    sound = gone_up.complete.sound;
+    month = gone_up.complete.month;
     parties = has_lines_of kinds are_kinds up_rules own m 453
         ∙ sym (λ i. party_lines (says kinds are_kinds up_rules own m (Role 3) i)
         (says kinds are_kinds up_rules own m (Role 1) i)
         (says kinds are_kinds up_rules own m (Role 4) i));
   }
 
-  by_table : up_content m ≡ content (table50 letter (items_up items)) (up_message m)
-  by_table = content_made kinds items (make items) m
-      (source.outline_is (table42 letter items) m sound) are_kinds up_rules own (each_made items)
-
-  abbrev IsAgain : ℕ → Type 0
-  IsAgain n = message50 (n ∷ []) (up_content m) None ≡ Ok (without_resend (up_message m))
-
   stands : (IsCanonical letter (items_up items) (up_message m)
-      → up_content m ≡ content (table50 letter (items_up items)) (up_message m)
-      → IsRequest (up_message m) (up_content m))
+      → up_content m ≡ content t (up_message m) → IsRequest (up_message m) (up_content m))
       → message50 (letter ∷ []) (up_content m) None
-      ≡ completed_by (told (message_of judge (table50 letter (items_up items)) (up_content m)))
-      → StandsFor m
-  stands make reads =
-      let t = table50 letter (items_up items) in record {
-        request = make as_canonical by_table;
-        means = keeps_sense m ordinary lack;
-        again = subst IsAgain (sym sound.letter) (reads
-            ∙ ap (λ fields. completed_by (told (message_of judge t fields))) by_table
-            ∙ content_again t (up_message m) fit bare as_canonical.sound as_canonical.month);
-      }
+      ≡ completed_by (told (message_of judge t (up_content m))) → StandsFor m
+  stands make reads = record {
+    request = make as_canonical gone_up.is;
+    means = keeps_sense m ordinary lack;
+    again = ap (λ (n : ℕ). message50 (n ∷ []) (up_content m) None) sound.letter ∙ reads
+        ∙ gone_up.again;
+  }
 
 -- WHAT GOES UP STANDS FOR A MESSAGE.
 stands_for : (m : Message) → IsRequest42 m → lack42 m ≡ None → StandsFor m

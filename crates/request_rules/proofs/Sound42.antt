@@ -1,36 +1,29 @@
 -- What is read of the fields of a request of FIX 4.2 is a sound message.
 use Rattle.std.proofs.Common.{◌≡◌, ℕ, List, [], ◌∷◌, Some, None, Bool, true, false, refl, sym, ap}
-use Rattle.std.proofs.Common.{subst, ◌∙◌}
-use Rattle.std.specs.Prelude.{Result, Ok, Err, not, ◌&&◌, ◌==◌}
+use Rattle.std.proofs.Common.{◌∙◌}
+use Rattle.std.specs.Prelude.{Ok, Err, not, ◌==◌}
 use Rattle.std.specs.Result.{result_ok}
-use Rattle.std.specs.List.{AllByRecursion, flat_map, list_all}
-use Rattle.std.proofs.lemmas.Bool.{eqb-true}
-use Rattle.typed_fields.specs.declared.fault.FieldFault.{FieldFault}
-use Rattle.typed_fields.specs.declared.month_year.MonthYear.{MonthYear as MonthValue}
+use Rattle.std.specs.List.{AllByRecursion, list_all}
 use Rattle.typed_fields.specs.MonthYear.{read_month_year}
 use Rattle.value_kinds.specs.ValueKind.{MonthYear, DayOfMonth, spelling, spelt}
 use Rattle.field_groups.specs.Field.{Field}
 use Rattle.field_groups.specs.Data.{is_data_tag}
-use Rattle.message_tables.specs.Tables.{Spells, Need, Required, Optional, When, Stands, Row, Item}
+use Rattle.message_tables.specs.Tables.{Spells, Need, Required, Optional, When, Stands, Row}
 use Rattle.message_tables.specs.Tables.{Table, Message, Said, ◌>>=◌, has_tag, value_at, is_needed}
-use Rattle.message_tables.specs.Tables.{text_of, groups_of, said_at, Tag}
+use Rattle.message_tables.specs.Tables.{text_of, said_at, Tag}
 use Rattle.message_tables.specs.FirstFault.{message_in}
 use Rattle.message_tables.specs.Content.{content}
 use Rattle.message_tables.proofs.Clean.{stands, value_at-none}
 use Rattle.row_values.specs.Kinds.{Kind, Value, DayOf, judge, verdict_of, month_at, in_month}
 use Rattle.dict_fix42.specs.Message.{message42}
-use Rattle.rows_fix42.specs.Header.{table}
 use Rattle.first_faults.specs.Faults.{message_by}
-use Rattle.dict_fix42.specs.Requests.{new_order, cancel_request, replace_request, status_request}
 use Rattle.sound_laws.specs.Sound.{IsClear, IsSound}
 use Rattle.sound_laws.proofs.CompletedSound.{kept_test}
-use Rattle.sound_laws.proofs.Each.{both, not_true}
+use Rattle.sound_laws.proofs.Each.{all_true, at_equal, not_true}
 use Rattle.sound_laws.proofs.ContentValues.{is_alone, value_said}
-use Rattle.sound_laws.proofs.PlainRows.{value_again, value_clear, HasPlainRows, allocs_plain}
-use Rattle.sound_laws.proofs.PlainRows.{sessions_plain, allocs_apart, sessions_apart, unfixed}
-use Rattle.sound_laws.proofs.PlainRows.{plain_items, of_message}
-use Rattle.sound_laws.proofs.ReadSound.{IsClearField, IsStableRow, IsTable, read_sound, row_passes}
-use Rattle.sound_laws.proofs.ReadSound.{stable_items}
+use Rattle.sound_laws.proofs.PlainRows.{of_message, read_tests, tests_sound, unfixed, value_again}
+use Rattle.sound_laws.proofs.PlainRows.{value_clear}
+use Rattle.sound_laws.proofs.ReadSound.{IsClearField, IsStableRow}
 use Rattle.order_meaning.specs.Request.{RequestKind, New, Cancel, Replace, Status}
 use Rattle.request_rules.specs.Up.{IsRequest42, News, Cancels, Replaces, Statuses}
 use Rattle.request_rules.proofs.ByType.{asked42, by_type}
@@ -50,8 +43,11 @@ ours_kind (Value kind) = true
 ours_kind (DayOf month) = month == 200
 ours_kind kind = false
 
+abbrev ours_tests : Row Kind → List Bool
+ours_tests row = not (is_data_tag row.tag) ∷ ours_need row.need ∷ ours_kind row.kind ∷ []
+
 abbrev is_ours_row : Row Kind → Bool
-is_ours_row row = not (is_data_tag row.tag) && (ours_need row.need && ours_kind row.kind)
+is_ours_row row = list_all (λ b. b) (ours_tests row)
 
 -- ---- a table
 
@@ -66,28 +62,24 @@ module _ (table : Table Kind) (fields : List Field) where
       (same_day : has_tag 205 after ≡ true → has_tag 205 fields ≡ true) where
     kept_need : (need : Need)
         → ours_need need ≡ true → is_needed need after ≡ true → is_needed need fields ≡ true
-    kept_need Required h n = refl
-    kept_need Optional h n = n
     kept_need (When ((Stands tag ∷ []) ∷ [])) h n =
-        let is : tag ≡ 205 = eqb-true tag 205 h in
-        let P : ℕ → Type 0 = λ t. is_needed (When ((Stands t ∷ []) ∷ [])) after ≡ true
-        → is_needed (When ((Stands t ∷ []) ∷ [])) fields ≡ true in
-        subst P (sym is) (kept_test (has_tag 205 after) (has_tag 205 fields) same_day) n
-    kept_need other h n = absurd cc
+        at_equal (λ t. is_needed (When ((Stands t ∷ []) ∷ [])) after ≡ true
+        → is_needed (When ((Stands t ∷ []) ∷ [])) fields ≡ true) tag 205 h
+        (kept_test (has_tag 205 after) (has_tag 205 fields) same_day) n
+    kept_need (When condition) h n = absurd cc
+    kept_need need h n = n
 
     ours_again : (kind : Kind) → ours_kind kind ≡ true → (bytes text : List ℕ)
         → judge fields kind bytes ≡ Spells text → judge after kind text ≡ Spells text
     unfolding judge
     ours_again (Value kind) h bytes text e = value_again kind bytes text e
     ours_again (DayOf month) h bytes text e =
-        let is : month ≡ 200 = eqb-true month 200 h in
-        let month_is : month_at month after ≡ month_at month fields = let P : ℕ → Type 0 =
-        λ t. month_at t after ≡ month_at t fields in subst P (sym is) same_month in
-        let first =
-        (day_in (month_at month fields) (verdict_of (spelling DayOfMonth bytes)) text e).0 in
-        let again = value_again DayOfMonth bytes text first in
-        ap (λ mo. in_month mo (verdict_of (spelling DayOfMonth text))) month_is
-        ∙ ap (in_month (month_at month fields)) (again ∙ sym first) ∙ e
+        let read = verdict_of (spelling DayOfMonth bytes) in
+        let first = (day_in (month_at month fields) read text e).0 in
+        ap (λ mo. in_month mo (verdict_of (spelling DayOfMonth text)))
+        (at_equal (λ t. month_at t after ≡ month_at t fields) month 200 h same_month)
+        ∙ ap (in_month (month_at month fields)) (value_again DayOfMonth bytes text first ∙ sym first)
+        ∙ e
     ours_again other h bytes text e = absurd cc
 
     ours_clear : (kind : Kind) → ours_kind kind ≡ true → (bytes text : List ℕ)
@@ -99,16 +91,13 @@ module _ (table : Table Kind) (fields : List Field) where
     ours_clear other h bytes text c e = absurd cc
 
     stable_row : (row : Row Kind) → is_ours_row row ≡ true → IsStableRow judge table fields row
-    stable_row row h =
-        let a = both (not (is_data_tag row.tag)) (ours_need row.need && ours_kind row.kind) h in
-        let b = both (ours_need row.need) (ours_kind row.kind) a.1 in
-        record {
-          kept = kept_need row.need b.0;
-          spelled = λ bytes text at e. ours_again row.kind b.1 bytes text e;
-          clear = ours_clear row.kind b.1;
-          fixed = λ text e. absurd (unfixed ours_need (λ other. refl) row.need b.0 text e);
-          bare = not_true (is_data_tag row.tag) a.0;
-        }
+    stable_row row h = let o = all_true (λ b. b) (ours_tests row) h in record {
+      kept = kept_need row.need o.1.0;
+      spelled = λ bytes text at e. ours_again row.kind o.1.1.0 bytes text e;
+      clear = ours_clear row.kind o.1.1.0;
+      fixed = λ text e. absurd (unfixed ours_need (λ other. refl) row.need o.1.0 text e);
+      bare = not_true (is_data_tag row.tag) o.0;
+    }
 
 -- ---- the month and the day of the content are those of the fields
 
@@ -116,32 +105,28 @@ abbrev month_said : List Field → Said
 month_said fields =
     value_at 200 fields >>= (λ bytes. text_of (judge fields (Value MonthYear) bytes))
 
-read_again : (text : List ℕ) (r : Result MonthValue FieldFault) → read_month_year text ≡ r →
-    text_of (verdict_of (spelt (λ _. text) r)) >>= (λ t. result_ok (read_month_year t))
-    ≡ result_ok r
-read_again text (Ok x) e = ap result_ok e
-read_again text (Err fault) e = refl
-
 month_read : (bytes : List ℕ) → text_of (verdict_of (spelling MonthYear bytes))
     >>= (λ t. result_ok (read_month_year t)) ≡ result_ok (read_month_year bytes)
 unfolding spelling
 month_read [] = refl
-month_read (b ∷ bs) = read_again (b ∷ bs) (read_month_year (b ∷ bs)) refl
+month_read bytes =
+    elim (read_month_year bytes) as (λ r. read_month_year bytes ≡ r
+    → text_of (verdict_of (spelt (λ _. bytes) r)) >>= (λ t. result_ok (read_month_year t))
+    ≡ result_ok r) [ Ok x ↦ λ e. ap result_ok e | Err fault ↦ λ e. refl ] refl
 
-month_same : (fields : List Field) (value : Said) → value_at 200 fields ≡ value →
-    (value >>= (λ bytes. text_of (judge fields (Value MonthYear) bytes)))
+month_same : (value : Said) → (value >>= (λ bytes. text_of (verdict_of (spelling MonthYear bytes))))
     >>= (λ t. result_ok (read_month_year t)) ≡ value >>= (λ t. result_ok (read_month_year t))
-unfolding judge
-month_same fields None e = refl
-month_same fields (Some bytes) e = month_read bytes
+month_same None = refl
+month_same (Some bytes) = month_read bytes
 
 abbrev day_said : List Field → Said
 day_said fields = value_at 205 fields >>= (λ bytes. text_of (judge fields (DayOf 200) bytes))
 
 module _ (fields after : List Field) where
   same_month_by : value_at 200 after ≡ month_said fields → month_at 200 after ≡ month_at 200 fields
+  unfolding judge
   same_month_by at = ap (λ (v : Said). v >>= (λ t. result_ok (read_month_year t))) at
-      ∙ month_same fields (value_at 200 fields) refl
+      ∙ month_same (value_at 200 fields)
 
   same_day_by : value_at 205 after ≡ day_said fields
       → has_tag 205 after ≡ true → has_tag 205 fields ≡ true
@@ -158,35 +143,26 @@ module _ (fields after : List Field) where
 
 module _ (fields : List Field) (clear : AllByRecursion (IsClearField judge) fields) where
   -- what is read by a table
-  table_read : (letter : ℕ) (items : List (Item Kind)) → IsTable judge (table letter items) fields
-      → list_all (row_passes is_ours_row) items ≡ true
-      → AllByRecursion HasPlainRows (flat_map groups_of items)
-      → is_alone 200 items ≡ true → is_alone 205 items ≡ true
-      → said_at (message_in judge (table letter items) fields).cells (Tag 200) ≡ month_said fields
-      → said_at (message_in judge (table letter items) fields).cells (Tag 205) ≡ day_said fields
-      → (x : Message) → message_by (Some (table letter items)) fields None ≡ Ok x
-      → IsSound judge (table letter items) x
-  table_read letter items is ours plain month day month_is day_is =
-      let t = table letter items in
+  table_read : (t : Table Kind) → list_all (λ b. b) (read_tests is_ours_row t) ≡ true
+      → is_alone 200 t.items ≡ true → is_alone 205 t.items ≡ true
+      → said_at (message_in judge t fields).cells (Tag 200) ≡ month_said fields
+      → said_at (message_in judge t fields).cells (Tag 205) ≡ day_said fields
+      → (x : Message) → message_by (Some t) fields None ≡ Ok x → IsSound judge t x
+  table_read t passed month day month_is day_is =
       let m = message_in judge t fields in
-      of_message t fields (IsSound judge t)
-      (read_sound judge t fields is (plain_items t fields items plain)
-      (λ groups. stable_items judge t fields is_ours_row (stable_row t fields
-      (same_month_by fields (content t m) (value_said judge m 200 items month groups ∙ month_is))
-      (same_day_by fields (content t m) (value_said judge m 205 items day groups ∙ day_is)))
-      items ours)
+      of_message t fields (IsSound judge t) (tests_sound t fields is_ours_row
+      (all_true (λ b. b) (read_tests is_ours_row t) passed) (λ groups. stable_row t fields
+      (same_month_by fields (content t m) (value_said judge m 200 t.items month groups ∙ month_is))
+      (same_day_by fields (content t m) (value_said judge m 205 t.items day groups ∙ day_is)))
       clear)
 
   each : (x : Message) (kind : RequestKind) → message_by (Some (asked42 kind)) fields None ≡ Ok x
       → IsRequest42 x
   unfolding is_data_tag
-  each x New e = News (table_read 68 new_order (search (allocs_apart, sessions_apart)) refl
-      (allocs_plain, (sessions_plain, tt)) refl refl refl refl x e)
-  each x Cancel e = Cancels (table_read 70 cancel_request (search) refl tt refl refl refl refl x e)
-  each x Replace e = Replaces (table_read 71 replace_request
-      (search (allocs_apart, sessions_apart)) refl
-      (allocs_plain, (sessions_plain, tt)) refl refl refl refl x e)
-  each x Status e = Statuses (table_read 72 status_request (search) refl tt refl refl refl refl x e)
+  each x New e = News (table_read (asked42 New) refl refl refl refl refl x e)
+  each x Cancel e = Cancels (table_read (asked42 Cancel) refl refl refl refl refl x e)
+  each x Replace e = Replaces (table_read (asked42 Replace) refl refl refl refl refl x e)
+  each x Status e = Statuses (table_read (asked42 Status) refl refl refl refl refl x e)
 
   -- WHAT IS READ IS SOUND.
   pub read_is_sound : (msg_type : List ℕ) (x : Message)

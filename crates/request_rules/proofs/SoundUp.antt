@@ -114,7 +114,7 @@ pub record GoesUp (items : List (Item Kind)) : Type 0 where
 
 module _ (letter : ℕ) (items : List (Item Kind)) (goes : GoesUp items) (m : Message)
     (sound : IsSound judge (table42 letter items) m) where
-  abbrev g : Goes Rule
+  abbrev pub g : Goes Rule
   g = record {
     kinds = kinds;
     are = are_kinds;

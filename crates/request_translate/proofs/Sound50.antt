@@ -12,20 +12,8 @@ use Rattle.sound_laws.specs.Complete.{IsComplete}
 use Rattle.order_meaning.specs.Request.{RequestKind, New, Cancel, Replace, Status}
 use Rattle.request_rules.proofs.ByType.{asked50, by_type}
 use Rattle.request_translate.specs.Up.{IsRequest50, News, Cancels, Replaces, Statuses}
-use Rattle.sound_laws.proofs.PlainRows.{parties_plain, allocs_plain, sessions_plain, parties_apart}
-use Rattle.sound_laws.proofs.PlainRows.{allocs_apart, sessions_apart}
 use Rattle.sound_laws.proofs.ReadSound.{IsClearField}
 use Rattle.sound_laws.proofs.ReadComplete.{IsDated, dated_complete, untyped}
-
-ruleset groups = (
-  parties_apart,
-  allocs_apart,
-  sessions_apart,
-  parties_plain,
-  allocs_plain,
-  sessions_plain,
-  untyped,
-)
 
 abbrev has_type : RequestKind → Bool
 has_type New = true
@@ -37,15 +25,13 @@ module _ (fields : List Field) (clear : AllByRecursion (IsClearField judge) fiel
   -- what is known of the tables, of which those of orders have an OrdType
   dated : (kind : RequestKind) → IsDated fields (asked50 kind) (has_type kind)
   unfolding is_data_tag
-  dated New = search groups
-  dated Replace = search groups
+  dated New = search (untyped)
+  dated Replace = search (untyped)
   dated kind = record {
     fits = refl;
-    apart = search groups;
-    plain = search groups;
     date = refl;
     types = λ untrue. absurd cc;
-    kept = search groups;
+    kept = search (untyped);
   }
 
   complete : (kind : RequestKind) (x : Message)

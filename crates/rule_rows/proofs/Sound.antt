@@ -7,20 +7,24 @@ use Rattle.std.specs.List.{AllByRecursion, flat_map}
 use Rattle.field_groups.specs.Field.{Field}
 use Rattle.message_tables.specs.Tables.{Row, Item, One, Party, Lines, RepeatingGroup, Message}
 use Rattle.message_tables.specs.Tables.{Place, Tag, Said, Cell, Table, said_at, groups_of, value_at}
-use Rattle.message_tables.specs.Tables.{lines_of}
+use Rattle.message_tables.specs.Tables.{is_one_of, lines_of}
 use Rattle.message_tables.specs.Content.{content}
 use Rattle.row_values.specs.Kinds.{Kind, judge}
 use Rattle.sound_laws.specs.Sound.{IsGroup, IsItem, IsSaid, IsSound}
 use Rattle.sound_laws.proofs.Each.{each_by, each_option, each_whole}
+use Rattle.sound_laws.proofs.ContentAgain.{IsGone, IsMonthOf, gone_by}
 use Rattle.sound_laws.proofs.ContentValues.{GroupSaid, is_alone, value_said}
 use Rattle.sound_laws.proofs.RowsSaid.{row_of_tag}
-use Rattle.rule_rows.specs.ByRules.{At, Grouped, Kinds, by_rules, has_any, outline_of}
+use Rattle.sound_laws.proofs.Stages.{item_tags}
+use Rattle.sound_laws.proofs.TableFits.{table_fits}
+use Rattle.rule_rows.specs.ByRules.{At, Grouped, Kinds, by_rules, content_by, has_any}
+use Rattle.rule_rows.specs.ByRules.{outline_of}
 use Rattle.rule_rows.specs.Rows.{group_at}
 use Rattle.rule_rows.proofs.Items.{can_go, count_is, has_one, has_row, item_if, may_go, row_there}
 use Rattle.rule_rows.proofs.Items.{turned, turned_group}
 use Rattle.rule_rows.proofs.Looked.{AreKinds, AreOwn, IsFound, has_lines_of, lines_by, rule_at}
 use Rattle.rule_rows.proofs.Looked.{said_by, says}
-use Rattle.rule_rows.proofs.Made.{IsMade, made, outline_made}
+use Rattle.rule_rows.proofs.Made.{IsMade, content_made, made, outline_made}
 use Rattle.rule_rows.proofs.Said as source
 
 -- a row that may go, where there is one
@@ -227,3 +231,21 @@ module _ {Rule : Type 0} (g : Goes Rule) where
             (each_by RuleGood _ (λ rule good. each_option (IsItem judge after w) (g.make rule)
             (good.said (groups_are h))) g.all h);
       }
+
+  -- WHAT IS WRITTEN of it is the content of what they make,
+  pub written : content_by g.kinds g.all g.m ≡ after
+  written = content_made g.kinds items g.make g.m (source.outline_is g.table g.m g.sound) g.are
+      g.all g.own g.each
+
+  -- and is read again, where it says the month of its date.
+  abbrev told_at : Place → Said
+  told_at place = said_by g.kinds g.m (rule_at g.kinds (At place) g.all)
+
+  pub gone : table_fits target [] ≡ true → is_one_of (flat_map item_tags target.items) 97 ≡ false
+      → IsSound judge target w → (date month : Said) → told_at (Tag 541) ≡ date
+      → told_at (Tag 200) ≡ month → IsMonthOf date month
+      → IsGone target w (content_by g.kinds g.all g.m)
+  gone fit bare sound date month is_date is_month of_date =
+      let at = says g.kinds g.are g.all g.own g.m in
+      gone_by target w (content_by g.kinds g.all g.m) fit bare sound written date month
+      (at (Tag 541) ∙ is_date) (at (Tag 200) ∙ is_month) of_date

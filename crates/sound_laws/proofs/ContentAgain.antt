@@ -13,8 +13,8 @@ use Rattle.message_tables.specs.FirstFault.{message_in, message_of, unless}
 use Rattle.message_tables.specs.Content.{content, item_fields}
 use Rattle.row_values.specs.Kinds.{Kind, judge}
 use Rattle.first_faults.specs.Faults.{told}
-use Rattle.rows_fix50.specs.Header.{completed_by}
-use Rattle.sound_laws.specs.Complete.{HasMonthOfDate}
+use Rattle.rows_fix50.specs.Header.{completed_by, month_by}
+use Rattle.sound_laws.specs.Complete.{HasMonthOfDate, IsComplete}
 use Rattle.sound_laws.specs.Sound.{IsItem, IsSound, places_of, without_resend}
 use Rattle.sound_laws.proofs.Completed.{completed_again}
 use Rattle.sound_laws.proofs.Each.{are_apart, each_at}
@@ -111,3 +111,29 @@ module _ (table : Table Kind) (m : Message)
     content_again month =
         ap completed_by read_again ∙ ap (λ (x : Message). Ok x) (completed_again m month
         (ap places_apart sound.places ∙ fits.places_are_apart table m [] fit) false)
+
+-- ---- what goes
+
+-- WHAT GOES is complete in a table, is written by it, and is read again.
+pub record IsGone (table : Table Kind) (m : Message) (written : List Field) : Type 0 where
+  pub complete : IsComplete table m
+  pub is : written ≡ content table m
+  pub again : completed_by (told (message_of judge table written)) ≡ Ok (without_resend m)
+
+-- a month is that of a date
+abbrev pub IsMonthOf : (date month : Said) → Type 0
+IsMonthOf date month = month ≡ month_by date month
+
+pub gone_by : (table : Table Kind) (m : Message) (written : List Field)
+    → table_fits table [] ≡ true → is_one_of (flat_map item_tags table.items) 97 ≡ false
+    → IsSound judge table m → written ≡ content table m
+    → (date month : Said) → said_at m.cells (Tag 541) ≡ date → said_at m.cells (Tag 200) ≡ month
+    → IsMonthOf date month → IsGone table m written
+gone_by table m written fit bare sound is date month at541 at200 of_date =
+    let has : HasMonthOfDate m = at200 ∙ of_date ∙ sym (λ i. month_by (at541 i) (at200 i)) in
+    record {
+      complete = record { sound = sound; month = has };
+      is = is;
+      again = ap (λ fields. completed_by (told (message_of judge table fields))) is
+          ∙ content_again table m fit bare sound has;
+    }

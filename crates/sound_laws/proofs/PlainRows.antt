@@ -1,27 +1,31 @@
 -- What both versions have alike: values that are judged by themselves are read again as they are
 -- written, and so are the lines of groups.
 use Rattle.std.proofs.Common.{◌≡◌, ℕ, List, [], ◌∷◌, Option, Some, None, Bool, true, false, refl}
-use Rattle.std.proofs.Common.{ap, subst, ◌∙◌, codes}
+use Rattle.std.proofs.Common.{ap, subst, ◌∙◌, codes, map}
 use Rattle.std.specs.Prelude.{Ok, not, ◌&&◌, ◌==◌}
 use Rattle.std.specs.List.{AllByRecursion, flat_map, list_all}
-use Rattle.value_kinds.specs.ValueKind.{ValueKind, Id, Number, OneByte, Spelling, spelling}
+use Rattle.std.specs.Str.{bytes_eq}
+use Rattle.std.proofs.lemmas.Slice.Eq.{bytes_eq-Decides}
+use Rattle.value_kinds.specs.ValueKind.{ValueKind, OneByte, Spelling, spelling}
 use Rattle.message_tables.specs.declared.table_fault.TableFault.{TableFault}
 use Rattle.field_groups.specs.Field.{Field}
 use Rattle.field_groups.specs.Data.{is_data_tag}
 use Rattle.message_tables.specs.Tables.{Spells, Need, Required, Optional, Fixed, When, Row}
 use Rattle.message_tables.specs.Tables.{RepeatingGroup, Item, Lines, Table, Message, GroupTags}
-use Rattle.message_tables.specs.Tables.{is_inside, is_needed, is_one_of, groups_of, tags_in}
-use Rattle.message_tables.specs.FirstFault.{first_fault, message_in, message_of, unless}
+use Rattle.message_tables.specs.Tables.{all_rows, groups_in, groups_of, is_inside, is_needed}
+use Rattle.message_tables.specs.Tables.{is_one_of, tags_in, tags_of}
+use Rattle.message_tables.specs.FirstFault.{first_fault, group_tags_of, message_in, message_of}
+use Rattle.message_tables.specs.FirstFault.{unless}
 use Rattle.message_tables.proofs.Few.{IsPlain}
-use Rattle.row_values.specs.Kinds.{Kind, Value, judge, verdict_of, row}
+use Rattle.row_values.specs.Kinds.{Kind, Value, judge, verdict_of}
 use Rattle.first_faults.specs.Faults.{told}
-use Rattle.row_values.specs.Contras.{contras}
-use Rattle.row_values.specs.Groups.{parties, allocs, sessions}
-use Rattle.sound_laws.specs.Sound.{IsClear}
-use Rattle.sound_laws.proofs.Each.{all_true, both, each_by, not_true}
+use Rattle.sound_laws.specs.Sound.{IsClear, IsSound, places_of}
+use Rattle.sound_laws.proofs.ContentValues.{GroupSaid}
+use Rattle.sound_laws.proofs.Each.{all_true, are_apart, both, each_by, not_true}
+use Rattle.sound_laws.proofs.Lookups.{places_apart}
 use Rattle.sound_laws.proofs.SpelledAgain.{spelled_again, spelled_clear}
-use Rattle.sound_laws.proofs.ReadSound.{IsPlainRow, IsPlainItem, IsStableItem, after, row_passes}
-use Rattle.sound_laws.proofs.ReadSound.{stable_items}
+use Rattle.sound_laws.proofs.ReadSound.{IsClearField, IsPlainRow, IsPlainItem, IsStableRow}
+use Rattle.sound_laws.proofs.ReadSound.{read_sound, row_passes, stable_items}
 
 -- ---- values
 
@@ -49,132 +53,123 @@ unfixed known none need h text e =
 
 -- ---- members of groups
 
-abbrev plain_need : Need → Bool
-plain_need Required = true
-plain_need Optional = true
-plain_need need = false
+-- a need of a value; one that is fixed is PartyIDSource, D
+abbrev plain_need : Need → Kind → Bool
+plain_need Required kind = true
+plain_need Optional kind = true
+plain_need (Fixed text) (Value OneByte) = bytes_eq text (codes "D")
+plain_need need kind = false
 
 abbrev plain_kind : Kind → Bool
 plain_kind (Value kind) = true
 plain_kind kind = false
 
 abbrev pub is_plain_row : Row Kind → Bool
-is_plain_row row = not (is_data_tag row.tag) && (plain_need row.need && plain_kind row.kind)
+is_plain_row row =
+    not (is_data_tag row.tag) && (plain_need row.need row.kind && plain_kind row.kind)
 
-steady_need : (need : Need) → plain_need need ≡ true → (l k : List Field)
+steady : (need : Need) (kind : Kind) → plain_need need kind ≡ true → (l k : List Field)
     → is_needed need k ≡ true → is_needed need l ≡ true
-steady_need (When condition) h l k n = absurd cc
-steady_need need h l k n = n
+steady (When condition) kind h l k n = absurd cc
+steady need kind h l k n = n
+
+fixed : (need : Need) (kind : ValueKind) → plain_need need (Value kind) ≡ true → (text : List ℕ)
+    → need ≡ Fixed text → (verdict_of (spelling kind text) ≡ Spells text) × IsClear text
+unfolding spelling
+fixed (Fixed own) OneByte h text e =
+    let is : own ≡ codes "D" = (bytes_eq-Decides own (codes "D")).0 h in
+    let same : text ≡ codes "D" = cc in rw same (refl, refl)
+fixed need kind h text e = absurd cc
 
 -- a row of values that are judged by themselves
-plain_by : (tag : ℕ) (kind : ValueKind) (need : Need) → is_data_tag tag ≡ false
-    → ((l k : List Field) → is_needed need k ≡ true → is_needed need l ≡ true)
-    → ((text : List ℕ) → need ≡ Fixed text
-    → (verdict_of (spelling kind text) ≡ Spells text) × IsClear text)
-    → IsPlainRow judge (row need tag kind)
+plain_by : (tag : ℕ) (kind : Kind) (need : Need) → is_data_tag tag ≡ false
+    → plain_need need kind ≡ true → plain_kind kind ≡ true
+    → IsPlainRow judge (record { tag = tag; kind = kind; need = need })
 unfolding judge
-plain_by tag kind need bare steady fixed = record {
+plain_by tag (Value kind) need bare known is = record {
   same = λ l k bytes. refl;
   stable = λ before after. record {
-    kept = steady before after;
+    kept = steady need (Value kind) known before after;
     spelled = λ bytes text at. value_again kind bytes text;
     clear = value_clear kind;
-    fixed = fixed;
+    fixed = fixed need kind known;
     bare = bare;
   };
 }
+plain_by tag kind need bare known is = absurd cc
 
-plain_kinds : (tag : ℕ) (kind : Kind) (need : Need) → not (is_data_tag tag) ≡ true
-    → plain_need need ≡ true → plain_kind kind ≡ true
-    → IsPlainRow judge (record { tag = tag; kind = kind; need = need })
-plain_kinds tag (Value kind) need bare known is = plain_by tag kind need (not_true _ bare)
-    (steady_need need known)
-    (λ text e. absurd (unfixed plain_need (λ other. refl) need known text e))
-plain_kinds tag kind need bare known is = absurd cc
-
-plain_row : (row : Row Kind) → is_plain_row row ≡ true → IsPlainRow judge row
+pub plain_row : (row : Row Kind) → is_plain_row row ≡ true → IsPlainRow judge row
 plain_row row h =
-    let a = both (not (is_data_tag row.tag)) (plain_need row.need && plain_kind row.kind) h in
-    let b = both (plain_need row.need) (plain_kind row.kind) a.1 in
-    plain_kinds row.tag row.kind row.need a.0 b.0 b.1
-
-plain_rows : (rows : List (Row Kind))
-    → list_all is_plain_row rows ≡ true → AllByRecursion (IsPlainRow judge) rows
-plain_rows rows h = each_by _ _ plain_row rows (all_true is_plain_row rows h)
-
--- PartyIDSource is D, whatever stands there
-source_fixed : (text : List ℕ) → ◌≡◌ {A = Need} (Fixed (codes "D")) (Fixed text)
-    → (verdict_of (spelling OneByte text) ≡ Spells text) × IsClear text
-unfolding spelling
-source_fixed text e =
-    let is : codes "D" ≡ text = cc in
-    let P : List ℕ → Type 0 =
-    λ t. (verdict_of (spelling OneByte t) ≡ Spells t) × IsClear t in subst P is (refl, refl)
+    let a = both (not (is_data_tag row.tag)) _ h in
+    let b = both (plain_need row.need row.kind) (plain_kind row.kind) a.1 in
+    plain_by row.tag row.kind row.need (not_true _ a.0) b.0 b.1
 
 -- ---- groups
 
-abbrev pub HasPlainRows : RepeatingGroup Kind → Type 0
-HasPlainRows group = AllByRecursion (IsPlainRow judge) group.rows
+abbrev apart_tests : GroupTags → List Bool
+apart_tests g =
+    is_inside g g.first ∷ not (g.first == g.count) ∷ not (is_one_of g.skipped g.first)
+    ∷ not (is_inside g g.count) ∷ []
 
-pub parties_plain : HasPlainRows parties
-unfolding is_data_tag
-parties_plain = (
-  plain_row (row Required 448 Id) refl,
-  (
-    plain_by 447 OneByte (Fixed (codes "D")) refl (λ l k n. n) source_fixed,
-    (plain_row (row Required 452 Number) refl, tt),
-  ),
-)
+abbrev is_plain_group : RepeatingGroup Kind → Bool
+is_plain_group group =
+    list_all is_plain_row group.rows && list_all (λ b. b) (apart_tests (tags_in group))
 
-pub allocs_plain : HasPlainRows allocs
-unfolding is_data_tag
-allocs_plain = plain_rows allocs.rows refl
-
-pub sessions_plain : HasPlainRows sessions
-unfolding is_data_tag
-sessions_plain = plain_rows sessions.rows refl
-
-pub contras_plain : HasPlainRows contras
-unfolding is_data_tag
-contras_plain = plain_rows contras.rows refl
-
-apart_by : (g : GroupTags) → is_inside g g.first ≡ true → (g.first == g.count) ≡ false
-    → is_one_of g.skipped g.first ≡ false → is_inside g g.count ≡ false → IsPlain g
-apart_by g inside counts said count = record {
-  first_inside = inside;
-  first_counts_not = counts;
-  first_is_said = said;
-  count_outside = count;
+apart : (g : GroupTags) → list_all (λ b. b) (apart_tests g) ≡ true → IsPlain g
+apart g h = let t = all_true (λ b. b) (apart_tests g) h in record {
+  first_inside = t.0;
+  first_counts_not = not_true _ t.1.0;
+  first_is_said = not_true _ t.1.1.0;
+  count_outside = not_true _ t.1.1.1.0;
 }
 
-pub parties_apart : IsPlain (tags_in parties)
-parties_apart = apart_by (tags_in parties) refl refl refl refl
-
-pub allocs_apart : IsPlain (tags_in allocs)
-allocs_apart = apart_by (tags_in allocs) refl refl refl refl
-
-pub sessions_apart : IsPlain (tags_in sessions)
-sessions_apart = apart_by (tags_in sessions) refl refl refl refl
-
-pub contras_apart : IsPlain (tags_in contras)
-contras_apart = apart_by (tags_in contras) refl refl refl refl
+plain : (group : RepeatingGroup Kind) → is_plain_group group ≡ true
+    → AllByRecursion (IsPlainRow judge) group.rows × IsPlain (tags_in group)
+plain group h =
+    let p = both (list_all is_plain_row group.rows) _ h in (
+      each_by _ _ plain_row group.rows (all_true is_plain_row group.rows p.0),
+      apart (tags_in group) p.1,
+    )
 
 module _ (table : Table Kind) (fields : List Field) where
-  pub plain_items : (items : List (Item Kind))
-      → AllByRecursion HasPlainRows (flat_map groups_of items) →
-      AllByRecursion (IsPlainItem judge table fields) items
-  plain_items [] h = tt
-  plain_items (Lines group ∷ items) h = (h.0, plain_items items h.1)
-  plain_items (item ∷ items) h = (tt, plain_items items h)
+  -- the groups of items, and their tags
+  plain_items : (items : List (Item Kind)) → list_all is_plain_group (flat_map groups_of items) ≡ true
+      → AllByRecursion (IsPlainItem judge table fields) items
+      × AllByRecursion IsPlain (flat_map group_tags_of items)
+  plain_items [] h = (tt, tt)
+  plain_items (Lines group ∷ items) h =
+      let p = both (is_plain_group group) (list_all is_plain_group (flat_map groups_of items)) h in
+      let here = plain group p.0 in
+      let rest = plain_items items p.1 in ((here.0, rest.0), (here.1, rest.1))
+  plain_items (item ∷ items) h = let rest = plain_items items h in ((tt, rest.0), rest.1)
 
--- rows that stand by themselves, whatever other rows say
-abbrev pub is_plain_item : Item Kind → Bool
-is_plain_item = row_passes is_plain_row
+-- ---- a table
 
-pub plain_stables : (table : Table Kind) (fields : List Field) (items : List (Item Kind))
-    → list_all is_plain_item items ≡ true → AllByRecursion (IsStableItem judge table fields) items
-plain_stables table fields = stable_items judge table fields is_plain_row
-    (λ row h. (plain_row row h).stable fields (after judge table fields))
+-- the tests of a table: each tag, place and count stands once, its rows pass a test, and its groups
+-- are plain
+abbrev pub read_tests : (Row Kind → Bool) → Table Kind → List Bool
+read_tests test table =
+    are_apart (tags_of (all_rows table)) ∷ places_apart (flat_map places_of table.items)
+    ∷ are_apart (map (λ group. group.count) (groups_in table))
+    ∷ list_all (row_passes test) table.items ∷ list_all is_plain_group (groups_in table) ∷ []
+
+-- WHAT IS READ by such a table IS SOUND, where rows that pass the test are stable.
+pub tests_sound : (table : Table Kind) (fields : List Field) (test : Row Kind → Bool)
+    → AllByRecursion (λ b. b ≡ true) (read_tests test table)
+    → (AllByRecursion (GroupSaid judge (message_in judge table fields)) (groups_in table)
+    → (row : Row Kind) → test row ≡ true → IsStableRow judge table fields row)
+    → AllByRecursion (IsClearField judge) fields
+    → first_fault judge table fields ≡ None → IsSound judge table (message_in judge table fields)
+tests_sound table fields test passed stable clear none =
+    let groups = plain_items table fields table.items passed.1.1.1.1.0 in
+    read_sound judge table fields (record {
+      rows = passed.0;
+      places = passed.1.0;
+      counts = passed.1.1.0;
+      plain = groups.1;
+    }) groups.0
+    (λ groups. stable_items judge table fields test (stable groups) table.items passed.1.1.1.0)
+    clear none
 
 -- ---- a message of a table that was read
 

@@ -1,34 +1,29 @@
 -- What is read by a table that has a month beside its date is sound, and complete where that month
 -- is told by the date.
 use Rattle.std.proofs.Common.{◌≡◌, List, Some, None, Bool, true, false, refl, sym, ap, subst, ◌∙◌}
-use Rattle.std.proofs.Common.{map, [], ◌∷◌}
+use Rattle.std.proofs.Common.{◌∷◌}
 use Rattle.std.specs.Prelude.{Ok, IfSome}
 use Rattle.std.specs.List.{AllByRecursion, flat_map, list_any, list_all}
 use Rattle.field_groups.specs.Field.{Field}
 use Rattle.field_groups.specs.Data.{is_data_tag}
 use Rattle.message_tables.specs.Tables.{Row, Table, Message, Tag, is_place, Said, said_at}
-use Rattle.message_tables.specs.Tables.{groups_of, groups_in, is_listed, value_at, all_rows}
-use Rattle.message_tables.specs.Tables.{tags_of}
+use Rattle.message_tables.specs.Tables.{groups_in, is_listed, value_at}
 use Rattle.message_tables.specs.FirstFault.{first_fault, message_in, message_of, unless}
-use Rattle.message_tables.specs.FirstFault.{group_tags_in}
 use Rattle.message_tables.specs.Content.{content}
-use Rattle.message_tables.proofs.Few.{IsPlain}
 use Rattle.row_values.specs.Kinds.{Kind, judge, date_at}
 use Rattle.first_faults.specs.Faults.{told}
 use Rattle.rows_fix50.specs.Header.{completed, completed_by}
 use Rattle.sound_laws.specs.Sound.{IsClear, IsSound, places_of}
 use Rattle.sound_laws.specs.Complete.{IsComplete}
-use Rattle.sound_laws.proofs.Each.{not_true, all_true, are_apart}
+use Rattle.sound_laws.proofs.Each.{not_true, all_true}
 use Rattle.sound_laws.proofs.ContentValues.{GroupSaid, groups_said, is_alone, items_value}
 use Rattle.sound_laws.proofs.ContentValues.{value_said, writes}
-use Rattle.sound_laws.proofs.PlainRows.{HasPlainRows, plain_items, unfixed}
-use Rattle.sound_laws.proofs.ReadSound.{IsClearField, IsStableRow, IsTable, read_sound}
-use Rattle.sound_laws.proofs.ReadSound.{stable_items}
+use Rattle.sound_laws.proofs.PlainRows.{read_tests, tests_sound, unfixed}
+use Rattle.sound_laws.proofs.ReadSound.{IsClearField, IsStableRow}
 use Rattle.sound_laws.proofs.Judged50.{AreAlike, judged_again, judged_clear, clear_date, date_said}
 use Rattle.sound_laws.proofs.Judged50.{date_kept, type_kept, type_said}
-use Rattle.sound_laws.proofs.CompletedSound.{KeepsType, is_ours, is_ours_row, ours, ours_need}
+use Rattle.sound_laws.proofs.CompletedSound.{KeepsType, is_ours_row, ours, ours_need}
 use Rattle.sound_laws.proofs.CompletedSound.{kept_need, completed_sound, completed_month}
-use Rattle.sound_laws.proofs.Lookups.{places_apart}
 
 -- what is read by a table is read at no fault
 pub read_of : (t : Table Kind) (fields : List Field) (x : Message)
@@ -43,13 +38,12 @@ read_of t fields x e =
       | Some fault ↦ λ good h. absurd (cc h)
     ] refl e
 
--- the tests of such a table: each tag, place and count stands once, the rows are of these kinds,
--- and the month and the date have their places
+-- the tests of such a table: those of one that is read by rows of these kinds, and that the month
+-- and the date have their places
 abbrev dated_tests : Bool → Table Kind → List Bool
 dated_tests timed t =
-    are_apart (tags_of (all_rows t)) ∷ places_apart (flat_map places_of t.items)
-    ∷ are_apart (map (λ group. group.count) (groups_in t)) ∷ list_all (is_ours timed) t.items
-    ∷ list_any (is_place (Tag 200)) (flat_map places_of t.items) ∷ is_alone 541 t.items ∷ []
+    list_any (is_place (Tag 200)) (flat_map places_of t.items) ∷ is_alone 541 t.items
+    ∷ read_tests (is_ours_row timed) t
 
 module _ (fields : List Field) (t : Table Kind) where
   abbrev m : Message
@@ -69,8 +63,6 @@ module _ (fields : List Field) (t : Table Kind) where
   -- WHAT IS KNOWN of such a table; only one that has OrdType has a time beside it
   pub record IsDated (timed : Bool) : Type 0 where
     pub fits : list_all (λ b. b) (dated_tests timed t) ≡ true
-    pub apart : AllByRecursion IsPlain (group_tags_in t)
-    pub plain : AllByRecursion HasPlainRows (flat_map groups_of t.items)
     pub date : said_at m.cells (Tag 541) ≡ date_said fields
     pub types : timed ≡ true
         → (is_alone 40 t.items ≡ true) × (said_at m.cells (Tag 40) ≡ type_said fields)
@@ -81,24 +73,10 @@ module _ (fields : List Field) (t : Table Kind) where
       tests : AllByRecursion (λ b. b ≡ true) (dated_tests timed t)
       tests = all_true (λ b. b) (dated_tests timed t) is.fits
 
-      once : IsTable judge t fields
-      once = record {
-        rows = tests.0;
-        places = tests.1.0;
-        counts = tests.1.1.0;
-        plain = is.apart;
-      }
-
-      known : list_all (is_ours timed) t.items ≡ true
-      known = tests.1.1.1.0
-
-      month : list_any (is_place (Tag 200)) (flat_map places_of t.items) ≡ true
-      month = tests.1.1.1.1.0
-
       alike : HasGroups → AreAlike timed fields after
       alike groups = record {
         date = date_kept fields after
-            (value_said judge m 541 t.items tests.1.1.1.1.1.0 groups ∙ is.date);
+            (value_said judge m 541 t.items tests.1.0 groups ∙ is.date);
         ord_type = λ there. type_kept fields after
             (value_said judge m 40 t.items (is.types there).0 groups ∙ (is.types there).1);
       }
@@ -116,9 +94,7 @@ module _ (fields : List Field) (t : Table Kind) where
 
       -- WHAT IS READ IS SOUND,
       pub dated_sound : first_fault judge t fields ≡ None → IsSound judge t m
-      dated_sound none = read_sound judge t fields once (plain_items t fields t.items is.plain)
-          (λ groups. stable_items judge t fields (is_ours_row timed) (stable_row groups) t.items
-          known) clear none
+      dated_sound = tests_sound t fields (is_ours_row timed) tests.1.1 stable_row clear
 
       complete : first_fault judge t fields ≡ None → IsComplete t (completed m)
       unfolding judge
@@ -130,8 +106,8 @@ module _ (fields : List Field) (t : Table Kind) where
           let no_soh = subst (λ (date : Said). IfSome date IsClear) (sym there)
           (clear_date fields clear) in
           record {
-            sound = completed_sound timed t m month at_date no_soh s known;
-            month = completed_month timed t m month at_date no_soh s;
+            sound = completed_sound timed t m tests.0 at_date no_soh s tests.1.1.1.1.1.0;
+            month = completed_month timed t m tests.0 at_date no_soh s;
           }
 
       -- and completed, it says the month of its date.

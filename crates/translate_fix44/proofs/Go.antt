@@ -18,7 +18,7 @@ use Rattle.order_meaning.specs.Report.{filled}
 use Rattle.row_values.specs.Kinds.{judge, Kind, Value, row}
 use Rattle.first_faults.specs.Faults.{told}
 use Rattle.rows_fix42.specs.Header.{table as table44}
-use Rattle.rows_fix50.specs.Header.{completed_by, month_by}
+use Rattle.rows_fix50.specs.Header.{completed_by}
 use Rattle.dict_fix50.specs.Message.{message50}
 use Rattle.dict_fix50.specs.Sense as sense50
 use Rattle.dict_fix44.specs.Message.{message44_by, request_message44, report_message44}
@@ -31,13 +31,11 @@ use Rattle.reports_fix50.specs.Reports as reports50
 use Rattle.reports_fix50.specs.Sense.{exec_of, report50}
 use Rattle.reports_fix50.specs.Step.{step50}
 use Rattle.sound_laws.specs.Complete.{IsComplete}
-use Rattle.sound_laws.specs.Sound.{IsSound, without_resend}
-use Rattle.sound_laws.proofs.PlainRows.{parties_plain, allocs_plain, sessions_plain, parties_apart}
-use Rattle.sound_laws.proofs.PlainRows.{allocs_apart, sessions_apart}
+use Rattle.sound_laws.specs.Sound.{IsSound}
 use Rattle.sound_laws.proofs.ReadComplete.{IsDated, dated_complete, untyped}
 use Rattle.sound_laws.proofs.ReadSound.{IsClearField}
 use Rattle.sound_laws.proofs.PlainFields.{AreFew, times, few_within, clear_fields, few_of}
-use Rattle.sound_laws.proofs.ContentAgain.{content_again}
+use Rattle.sound_laws.proofs.ContentAgain.{IsGone}
 use Rattle.sound_laws.proofs.Each.{◌&◌, all_true, none_each, not_true}
 use Rattle.sound_laws.proofs.RowsSaid.{is_code_of}
 use Rattle.rule_rows.specs.ByRules.{by_rules, content_by, has_place, lack_by, outline_of}
@@ -45,8 +43,8 @@ use Rattle.rule_rows.specs.Rules.{By}
 use Rattle.rule_rows.proofs.Items.{IsRow}
 use Rattle.rule_rows.proofs.Looked as looked
 use Rattle.rule_rows.proofs.Looked.{no_lack}
-use Rattle.rule_rows.proofs.Made.{content_made}
 use Rattle.rule_rows.proofs.Said as source
+use Rattle.rule_rows.proofs.Sound.{gone}
 use Rattle.request_rules.specs.Rules.{party_lines}
 use Rattle.request_rules.specs.Canonical.{IsCanonical, IsRequest}
 use Rattle.request_rules.specs.Canonical as canonical
@@ -61,11 +59,11 @@ use Rattle.translate_fix44.specs.Rules.{Else, Rule, Same, down_content, down_mes
 use Rattle.translate_fix44.specs.Rules.{kinds, party, rules_for, turned_code, up_content, up_lack}
 use Rattle.translate_fix44.specs.Rules.{up_rules}
 use Rattle.translate_fix44.proofs.Tables.{are_kinds, reject_own, report_own, up_own, AreWay, GoesBy}
-use Rattle.translate_fix44.proofs.Tables.{IsElse, each_made, items_by, make, table_from, table_to}
+use Rattle.translate_fix44.proofs.Tables.{IsElse, items_by, table_from, table_to}
 use Rattle.translate_fix44.proofs.Tables.{tests}
 use Rattle.translate_fix44.proofs.Sense.{has_inst, reject_kept, report_kept, request_means}
 use Rattle.translate_fix44.proofs.Sense.{status_turns, turned_is}
-use Rattle.translate_fix44.proofs.Sound.{sound_by}
+use Rattle.translate_fix44.proofs.Sound.{g, sound_by}
 
 -- ---- what is read of a request is sound, and says the month of its date
 
@@ -88,24 +86,18 @@ module _ (fields : List Field) (clear : AllByRecursion (IsClearField judge) fiel
   unfolding is_data_tag
   dated Cancel = record {
     fits = refl;
-    apart = (parties_apart, tt);
-    plain = (parties_plain, tt);
     date = refl;
     types = λ untrue. absurd cc;
     kept = untyped fields (asked44 Cancel) refl;
   }
   dated Status = record {
     fits = refl;
-    apart = (parties_apart, tt);
-    plain = (parties_plain, tt);
     date = refl;
     types = λ untrue. absurd cc;
     kept = untyped fields (asked44 Status) refl;
   }
   dated kind = record {
     fits = refl;
-    apart = (parties_apart, (allocs_apart, (sessions_apart, tt)));
-    plain = (parties_plain, (allocs_plain, (sessions_plain, tt)));
     date = refl;
     types = λ untrue. absurd cc;
     kept = untyped fields (asked44 kind) refl;
@@ -135,13 +127,10 @@ reject44 = table44 57 reports44.cancel_reject
 
 three_parties : (client broker firm : Said) → length (party_lines client broker firm) ≤ 3
 three_parties None None None = lit≤ tt
-three_parties None None (Some firm) = lit≤ tt
 three_parties None (Some broker) None = lit≤ tt
-three_parties None (Some broker) (Some firm) = lit≤ tt
 three_parties (Some client) None None = lit≤ tt
-three_parties (Some client) None (Some firm) = lit≤ tt
 three_parties (Some client) (Some broker) None = lit≤ tt
-three_parties (Some client) (Some broker) (Some firm) = lit≤ tt
+three_parties client broker firm = lit≤ tt
 
 -- at most three parties are written, and 32 lines of any other group
 abbrev limit : ℕ → ℕ
@@ -150,12 +139,10 @@ limit count = if count == 453 then 3 else 32
 module _ (m : Message) (three : length (lines_of 453 m.groups) ≤ 3) where
   within : (count : ℕ) → length (lines_of count m.groups) ≤ 32
       → length (lines_of count m.groups) ≤ limit count
-  within count few = by (count == 453) refl
-    where
-      by : (b : Bool) → (count == 453) ≡ b
-          → length (lines_of count m.groups) ≤ (if b then 3 else 32)
-      by true e = rw (eqb-true count 453 e) three
-      by false e = few
+  within count few =
+      elim (count == 453) as (λ b. (count == 453) ≡ b
+      → length (lines_of count m.groups) ≤ (if b then 3 else 32))
+      [ true ↦ λ e. rw (eqb-true count 453 e) three | false ↦ λ e. few ] refl
 
   -- THE CONTENT OF A REPORT has few fields.
   few_report : IsSound judge report44 m → AreFew (content report44 m)
@@ -164,45 +151,15 @@ module _ (m : Message) (three : length (lines_of 453 m.groups) ≤ 3) where
 
 -- ---- either way
 
--- WHAT GOES is complete in a table, is written by it, and is read again.
-pub record IsGone (t : Table Kind) (w : Message) (written : List Field) : Type 0 where
-  pub complete : IsComplete t w
-  pub is : written ≡ content t w
-  pub again : completed_by (told (message_of judge t written)) ≡ Ok (without_resend w)
-
 module _ (up : Bool) (all : List Rule) (way : AreWay all) (letter : ℕ) (items : List (Item Kind))
     (goes : GoesBy up all letter items) (m : Message)
     (c : IsComplete (table_from up letter items) m) (lack : lack_by kinds all m ≡ None) where
-  abbrev made : Message
-  made = by_rules kinds all m
-
-  abbrev to : Table Kind
-  to = table_to up all letter items
-
-  complete : IsComplete to made
-  complete =
-      let at200 = looked.says kinds are_kinds all way.own m (Tag 200) ∙ way.month m in
-      let at541 = looked.says kinds are_kinds all way.own m (Tag 541) ∙ way.date m in
-      record {
-        sound = sound_by up all way letter items goes m c.sound lack;
-        month = at200 ∙ c.month ∙ sym (λ i. month_by (at541 i) (at200 i));
-      }
-
-  written : content_by kinds all m ≡ content to made
-  written = content_made kinds items (make up items) m
-      (source.outline_is (table_from up letter items) m c.sound) are_kinds all way.own
-      (each_made up items)
-
-  gone : IsGone to made (content_by kinds all m)
-  gone =
+  way_gone : IsGone (table_to up all letter items) (by_rules kinds all m) (content_by kinds all m)
+  way_gone =
       let tested = all_true (λ b. b) (tests up all letter items) goes.passed in
-      record {
-        complete = complete;
-        is = written;
-        again = ap (λ fields. completed_by (told (message_of judge to fields))) written
-            ∙ content_again to made tested.1.1.1.1.1.0 (not_true _ tested.1.1.1.1.1.1.0)
-            complete.sound complete.month;
-      }
+      gone (g up all way letter items goes m c.sound) tested.1.1.1.1.1.0
+      (not_true _ tested.1.1.1.1.1.1.0) (sound_by up all way letter items goes m c.sound lack)
+      (at m 541) (at m 200) (way.date m) (way.month m) c.month
 
 -- ---- up
 
@@ -257,7 +214,7 @@ module _ (kind : RequestKind)
   t = table_to true up_rules (letter_of kind) (items_of kind)
 
   gone_up : IsGone t w (up_content m)
-  gone_up = gone true up_rules up_way (letter_of kind) (items_of kind) (up_goes kind) m c
+  gone_up = way_gone true up_rules up_way (letter_of kind) (items_of kind) (up_goes kind) m c
       (or_none _ _ lack)
 
   by_letter : (f : RequestKind → Request) → asked m.letter f ≡ Some (f kind)
@@ -385,7 +342,7 @@ unfolding report_message44
 report_goes_down known x w = goes_down report_table report44 known x w (λ c lack.
     let m = with_letter x 56 in
     let rules = down_rules (Same 41) in
-    let g = gone false rules report_way 56 reports50.execution_report report_goes m c lack in
+    let g = way_gone false rules report_way 56 reports50.execution_report report_goes m c lack in
     let three = subst (λ (lines : List (List Cell)). length lines ≤ 3)
     (sym (looked.has_lines_of kinds are_kinds rules report_own m 453))
     (three_parties (party m 3) (party m 1) (party m 4)) in
@@ -404,7 +361,7 @@ unfolding report_message44 is_data_tag times
 reject_goes_down known id x w = goes_down cancel_reject_table reject44 known x w (λ c lack.
     let m = with_letter x 57 in
     let rules = down_rules (By (Else 41 known)) in
-    let g = gone false rules (reject_way known) 57 reports50.cancel_reject (reject_goes known id) m
+    let g = way_gone false rules (reject_way known) 57 reports50.cancel_reject (reject_goes known id) m
     c lack in
     record {
       gone = g;

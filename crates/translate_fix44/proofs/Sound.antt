@@ -115,7 +115,7 @@ passed test (Some one) h = h
 module _ (up : Bool) (all : List Rule) (way : AreWay all) (letter : ℕ) (items : List (Item Kind))
     (goes : GoesBy up all letter items) (m : Message)
     (sound : IsSound judge (table_from up letter items) m) where
-  abbrev g : Goes Rule
+  abbrev pub g : Goes Rule
   g = record {
     kinds = kinds;
     are = are_kinds;
