@@ -4,7 +4,7 @@ use Rattle.std.proofs.Common.{◌≡◌, ◌≤◌, ◌<◌, ◌^◌, ℕ, [], �
 use Rattle.std.proofs.Common.{None, refl, sym, ap, ◌∙◌, codes, arith, option_map, length, nat_le}
 use Rattle.std.proofs.Common.{List}
 use Rattle.std.specs.Prelude.{IfSome, drop, ◌==◌, ◌&&◌, not, is_some, unwrap_or, if◌then◌else◌}
-use Rattle.std.specs.Prelude.{Result, Ok, Err}
+use Rattle.std.specs.Prelude.{Ok, Err}
 use Rattle.std.specs.Fmt.{decimal}
 use Rattle.std.specs.Int.{is_in_range}
 use Rattle.std.specs.Result.{result_ok}
@@ -12,7 +12,6 @@ use Rattle.std.specs.Str.Parse.{digits_value}
 use Rattle.std.proofs.lemmas.Bool.Decides.{nat_tests}
 use Rattle.std.proofs.lemmas.Fmt.{digits_decimal, digits_value-decimal, decimal_nonempty}
 use Rattle.std.proofs.lemmas.Fmt.{length-decimal-le}
-use Rattle.typed_fields.specs.declared.fault.FieldFault.{FieldFault}
 use Rattle.typed_fields.specs.declared.number.Number.{Number}
 use Rattle.typed_fields.specs.Digits.{are_digits, number_of as number_in_digits}
 use Rattle.typed_fields.specs.Number.{IsNumber, number_text, read_number}
@@ -22,13 +21,14 @@ use Rattle.typed_fields.proofs.NumberLaws.{number_in_bound}
 use Rattle.field_groups.specs.Field.{Field}
 use Rattle.field_groups.specs.HeadValues.{number_in}
 use Rattle.message_tables.specs.Content.{cell_fields}
-use Rattle.message_tables.specs.Tables.{Message, Row, Said, Table, Tag, ◌>>=◌, code_of, is_one_of}
+use Rattle.message_tables.specs.Tables.{Message, Said, Table, Tag, ◌>>=◌, code_of, is_one_of}
 use Rattle.message_tables.specs.Tables.{value_at}
 use Rattle.value_kinds.specs.ValueKind.{code_text}
 use Rattle.row_values.specs.Kinds.{Kind}
 use Rattle.order_meaning.specs.Report.{or_known}
 use Rattle.rows_fix50.specs.Meaning.{id_of}
 use Rattle.reports_fix50.specs.Sense.{reason_told, telling}
+use Rattle.sound_laws.proofs.Each.{none_there, not_true}
 use Rattle.sound_laws.proofs.RowsSaid.{row_of_tag}
 use Rattle.rule_rows.specs.ByRules.{lack_if, rule_fields}
 use Rattle.rule_rows.specs.Texts.{Facts, Has, OfKind, OfKinds, Own as OwnText, is_kept}
@@ -83,12 +83,9 @@ reason_is last other (Some n) text good is =
 
 close_is : (type : Option ℕ) → option_map code_text (option_map close_code type) ≡ on_close type
 close_is None = refl
-close_is (Some type) = by (type == 49)
-  where
-    by : (b : Bool) → Some (code_text (if b then 53 else 66))
-        ≡ (if b then Some (codes "5") else Some (codes "B"))
-    by true = refl
-    by false = refl
+close_is (Some type) =
+    elim (type == 49) as (λ b. ◌≡◌ {A = Said} (Some (code_text (if b then 53 else 66)))
+    (if b then Some (codes "5") else Some (codes "B"))) [ true ↦ refl | false ↦ refl ]
 
 coded_is : (f : ℕ → ℕ) (code : Option ℕ)
     → coded (option_map f code) ≡ option_map (λ c. code_text (f c)) code
@@ -98,17 +95,11 @@ coded_is f (Some code) = refl
 -- the number of a value is bounded
 bounded : (value : Option (List ℕ)) → IfSome (number_read value) IsNumber
 bounded None = tt
-bounded (Some v) = by (read_number v) refl
-  where
-    by : (r : Result Number FieldFault) → read_number v ≡ r → IfSome (result_ok r) IsNumber
-    by (Ok n) e = number_in_bound v n e
-    by (Err fault) e = tt
+bounded (Some v) =
+    elim (read_number v) as (λ r. read_number v ≡ r → IfSome (result_ok r) IsNumber)
+    [ Ok n ↦ λ e. number_in_bound v n e | Err fault ↦ λ e. tt ] refl
 
 -- ---- the text of a message
-
-no_row : (row : Option (Row Kind)) → not (is_some row) ≡ true → row ≡ None
-no_row None h = refl
-no_row (Some row) h = absurd cc
 
 module _ (table : Table Kind) (fields : List Field) (m : Message)
     (said : AreSaid is_month table fields m) where
@@ -125,7 +116,7 @@ module _ (table : Table Kind) (fields : List Field) (m : Message)
   none : (tag : ℕ) → is_month tag ≡ false → not (has_row table tag) ≡ true
       → None ≡ (at m tag >>= number_in)
   none tag other h = ap (λ (t : Said). t >>= number_in) (sym (said.at_row tag other
-      ∙ ap (row_says fields) (no_row (row_of_tag tag table.items) h)))
+      ∙ ap (row_says fields) (none_there (row_of_tag tag table.items) (not_true _ h))))
 
   -- what is written of a reason
   pub within_said : (tag last other : ℕ) → Has is_month table (OfKinds is_reason tag)

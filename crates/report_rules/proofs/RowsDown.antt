@@ -3,13 +3,12 @@
 use Rattle.std.proofs.Common.{◌≡◌, ◌≤◌, ◌<◌, ◌+◌, ◌^◌, ℕ, zero, suc, Bool, true, false, List, []}
 use Rattle.std.proofs.Common.{◌∷◌, ◌++◌, codes, drop, length, take, Option, Some, None, refl, sym}
 use Rattle.std.proofs.Common.{ap, subst, arith, nat_le, lit≤, length-append, unwrap_or, ◌∙◌}
-use Rattle.std.specs.Prelude.{IsSome, IfSome, Ok, Err, Result, ◌==◌, ◌||◌, if◌then◌else◌, not}
+use Rattle.std.specs.Prelude.{IsSome, IfSome, Ok, Err, Result, ◌==◌, if◌then◌else◌, not}
 use Rattle.std.specs.Prelude.{is_some}
 use Rattle.std.specs.Fmt.{decimal, digits}
 use Rattle.std.specs.Str.{bytes_eq}
 use Rattle.std.specs.List.{AllByRecursion, list_any}
 use Rattle.std.proofs.lemmas.Bool.Decides.{nat_tests}
-use Rattle.std.proofs.lemmas.Slice.Eq.{bytes_eq-Decides}
 use Rattle.std.proofs.lemmas.List.{length-take}
 use Rattle.std.proofs.lemmas.Fmt.{digits_decimal, length-decimal-le}
 use Rattle.typed_fields.specs.declared.fault.FieldFault.{FieldFault}
@@ -22,7 +21,7 @@ use Rattle.typed_fields.proofs.SpellingLemmas.{judged_ok}
 use Rattle.field_groups.specs.Field.{Field, is_soh}
 use Rattle.field_groups.specs.HeadValues.{number_in, is_number}
 use Rattle.message_tables.specs.Tables.{Spells, Required, Optional, Said, Cell, Place, Tag, ◌>>=◌}
-use Rattle.message_tables.specs.Tables.{first_of, is_place, or_else, party_in, said_at, text_in}
+use Rattle.message_tables.specs.Tables.{first_of, is_one_of, is_place, or_else, party_in, said_at, text_in}
 use Rattle.message_tables.specs.Tables.{Message, Table, Role, lines_of}
 use Rattle.message_tables.specs.Content.{line_fields}
 use Rattle.value_kinds.specs.ValueKind.{Id, Text, Reason, if_in_range, spelling, spelt}
@@ -31,7 +30,7 @@ use Rattle.row_values.specs.Kinds.{Value, judge, row, verdict_of, Kind}
 use Rattle.row_values.specs.Groups.{parties}
 use Rattle.reports_fix50.specs.Sense.{reason_told, telling}
 use Rattle.sound_laws.specs.Sound.{IsClear, IsSaid, IsLine, IsSound}
-use Rattle.sound_laws.proofs.Each.{either}
+use Rattle.sound_laws.proofs.Each.{◌&◌, either, one_of}
 use Rattle.sound_laws.proofs.RowsSaid.{optional_said, required_said, same_value}
 use Rattle.sound_laws.proofs.PlainRows.{spelled}
 use Rattle.sound_laws.proofs.SpelledAgain.{clear_front, clear_joined, digits_clear}
@@ -79,26 +78,21 @@ party_id : (role : ℕ) (lines : List (List Cell))
 unfolding first_of
 party_id role [] said = tt
 party_id role (line ∷ lines) said =
-    by (bytes_eq (text_in line 452) (decimal role)) (party_id role lines said.1)
-  where
-    by : (b : Bool) → IfSome (party_in role lines) IsId
-        → IfSome (or_else (if b then Some (text_in line 448) else None) (party_in role lines)) IsId
-    by true later = line_id line said.0
-    by false later = later
+    elim (bytes_eq (text_in line 452) (decimal role)) as (λ b. IfSome (or_else
+    (if b then Some (text_in line 448) else None) (party_in role lines)) IsId)
+    [ true ↦ line_id line said.0 | false ↦ party_id role lines said.1 ]
 
 -- the id of the party of a role
 pub role_id : (table : Table Kind) (m : Message) → IsSound judge table m
     → group_at 453 table.items ≡ Some parties → (role : ℕ) → IfSome (party m role) IsId
-role_id table m sound there role = by (has_place (outline_of table.items) (Role role)) refl
-  where
-    P : Said → Type 0
-    P id = IfSome id IsId
-
-    by : (b : Bool) → has_place (outline_of table.items) (Role role) ≡ b → P (party m role)
-    by true e = subst P (sym (source.role_is table m sound role e)) (party_id role
-        (lines_of 453 m.groups) (source.group_is table m sound 453 parties there).said)
-    by false e = subst P (sym (none_at m.cells (Role role)
-        (ap (λ o. has_place o (Role role)) (source.outline_is table m sound) ∙ e))) tt
+role_id table m sound there role =
+    elim (has_place (outline_of table.items) (Role role)) as
+    (λ b. has_place (outline_of table.items) (Role role) ≡ b → IfSome (party m role) IsId) [
+      | true ↦ λ e. rw (source.role_is table m sound role e) (party_id role
+          (lines_of 453 m.groups) (source.group_is table m sound 453 parties there).said)
+      | false ↦ λ e. rw (none_at m.cells (Role role)
+          (ap (λ o. has_place o (Role role)) (source.outline_is table m sound) ∙ e)) tt
+    ] refl
 
 pub ids_said : (fields : List Field) (tag : ℕ) (id : Said)
     → IfSome id IsId → IsSaid judge fields (row Optional tag Id) id
@@ -124,36 +118,18 @@ known_said before after tag kind None None h k lack = absurd cc
 
 -- the reasons that stand for later ones
 abbrev pub is_other : List ℕ → Bool
-is_other other = bytes_eq other (codes "0") || (bytes_eq other (codes "2") || bytes_eq other (codes "4"))
+is_other (code ∷ []) = is_one_of (codes "024") code
+is_other other = false
 
 abbrev IsReason : List ℕ → Type 0
 IsReason text = (judge [] (Value Reason) text ≡ Spells text) × IsClear text
 
-reason_0 : IsReason (codes "0")
-unfolding judge spelling are_digits number_of digits
-reason_0 = (refl, refl)
-
-reason_2 : IsReason (codes "2")
-unfolding judge spelling are_digits number_of digits
-reason_2 = (refl, refl)
-
-reason_4 : IsReason (codes "4")
-unfolding judge spelling are_digits number_of digits
-reason_4 = (refl, refl)
-
 other_reason : (other : List ℕ) → is_other other ≡ true → IsReason other
-other_reason other h = by (bytes_eq other (codes "0")) (bytes_eq other (codes "2"))
-    (bytes_eq other (codes "4")) refl refl refl h
-  where
-    by : (a b c : Bool) → bytes_eq other (codes "0") ≡ a → bytes_eq other (codes "2") ≡ b
-        → bytes_eq other (codes "4") ≡ c → (a || (b || c)) ≡ true → IsReason other
-    by true b c e f g h =
-        subst IsReason (sym ((bytes_eq-Decides other (codes "0")).0 e)) reason_0
-    by false true c e f g h =
-        subst IsReason (sym ((bytes_eq-Decides other (codes "2")).0 f)) reason_2
-    by false false true e f g h =
-        subst IsReason (sym ((bytes_eq-Decides other (codes "4")).0 g)) reason_4
-    by false false false e f g h = absurd cc
+unfolding judge spelling are_digits number_of digits
+other_reason (code ∷ []) h =
+    one_of (λ c. IsReason (c ∷ [])) (codes "024")
+    ((refl, refl) & (refl, refl) & (refl, refl) & tt) code h
+other_reason other h = absurd cc
 
 pub reason_said : (before after : List Field) (tag last : ℕ) (other : List ℕ)
     → is_other other ≡ true → (reason : Said) → IsSpelled before (Value Reason) reason
@@ -167,11 +143,8 @@ reason_said before after tag last other is (Some reason) h =
   where
     by : (n : Option ℕ) → IsReason (within last other reason n)
     by None = (h.spelled, h.clear)
-    by (Some n) = test (nat_le n last)
-      where
-        test : (b : Bool) → IsReason (if b then reason else other)
-        test true = (h.spelled, h.clear)
-        test false = other_reason other is
+    by (Some n) = elim (nat_le n last) as (λ b. IsReason (if b then reason else other))
+        [ true ↦ (h.spelled, h.clear) | false ↦ other_reason other is ]
 
 -- ---- the number of a reason
 
@@ -179,13 +152,11 @@ reason_said before after tag last other is (Some reason) h =
 in_range_of : (n : NumberValue) (text : List ℕ)
     → verdict_of (spelt number_text (if_in_range (λ m. nat_le m.value 9999) (Ok n))) ≡ Spells text
     → n.value ≤ 9999
-in_range_of n text h = by (nat_le n.value 9999) refl h
-  where
-    by : (b : Bool) → nat_le n.value 9999 ≡ b
-        → verdict_of (spelt number_text (if b then Ok n else Err Range)) ≡ Spells text
-        → n.value ≤ 9999
-    by true e h = grind (arith, nat_tests)
-    by false e h = absurd cc
+in_range_of n text h =
+    elim (nat_le n.value 9999) as (λ b. nat_le n.value 9999 ≡ b
+    → verdict_of (spelt number_text (if b then Ok n else Err Range)) ≡ Spells text
+    → n.value ≤ 9999)
+    [ true ↦ λ e h. grind (arith, nat_tests) | false ↦ λ e h. absurd (cc h) ] refl h
 
 small_by : (text : List ℕ) (r : Result NumberValue FieldFault) → read_number text ≡ r
     → verdict_of (spelt number_text (if_in_range (λ m. nat_le m.value 9999) r)) ≡ Spells text
@@ -201,12 +172,10 @@ pub small_reason : (fields : List Field) (text : List ℕ)
     → judge fields (Value Reason) text ≡ Spells text → IfSome (number_in text) (λ n. n ≤ 9999)
 unfolding judge spelling number_in number_of
 small_reason fields [] h = absurd cc
-small_reason fields (b ∷ bs) h = by (is_number (b ∷ bs))
-  where
-    by : (good : Bool)
-        → IfSome (if good then Some (number_of (b ∷ bs)) else None) (λ n. n ≤ 9999)
-    by true = small_by (b ∷ bs) (read_number (b ∷ bs)) refl h
-    by false = tt
+small_reason fields (b ∷ bs) h =
+    elim (is_number (b ∷ bs)) as
+    (λ good. IfSome (if good then Some (number_of (b ∷ bs)) else None) (λ n. n ≤ 9999))
+    [ true ↦ small_by (b ∷ bs) (read_number (b ∷ bs)) refl h | false ↦ tt ]
 
 -- ---- texts
 
@@ -246,15 +215,16 @@ one_told tag n small few =
       begins = tt;
     }
 
+nothing_told : IsTold 12 []
+nothing_told = record { short = lit≤ tt; clear = refl; begins = tt }
+
 told_of : (tag last : ℕ) (reason : Option ℕ) → tag < 1000
     → IfSome reason (λ n. n ≤ 9999) → IsTold 12 (reason_told tag last reason)
-told_of tag last None small h = record { short = lit≤ tt; clear = refl; begins = tt }
-told_of tag last (Some n) small h = by (nat_le n last)
-  where
-    by : (b : Bool) → IsTold 12 (if b then []
-        else codes " [" ++ decimal tag ++ codes "=" ++ decimal n ++ codes "]")
-    by true = record { short = lit≤ tt; clear = refl; begins = tt }
-    by false = one_told tag n small h
+told_of tag last None small h = nothing_told
+told_of tag last (Some n) small h =
+    elim (nat_le n last) as (λ b. IsTold 12 (if b then []
+    else codes " [" ++ decimal tag ++ codes "=" ++ decimal n ++ codes "]"))
+    [ true ↦ nothing_told | false ↦ one_told tag n small h ]
 
 told_said : (fields : List Field) (tag last : ℕ) (reason : Said) → tag < 1000
     → IsSpelled fields (Value Reason) reason

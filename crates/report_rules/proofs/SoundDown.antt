@@ -15,6 +15,7 @@ use Rattle.row_values.specs.Groups.{parties}
 use Rattle.rows_fix42.specs.Header.{has_day, header as header42, table as table42}
 use Rattle.reports_fix42.specs.Reports.{is_about_another, is_execution}
 use Rattle.sound_laws.proofs.ContentValues.{is_alone}
+use Rattle.sound_laws.proofs.Each.{none_there}
 use Rattle.sound_laws.proofs.RowsSaid.{row_of_tag, same_value, optional_said, needed_said}
 use Rattle.sound_laws.proofs.RowsSaid.{code_said}
 use Rattle.rule_rows.specs.ByRules.{has_place, outline_of, At, by_rules, lack_by}
@@ -34,7 +35,7 @@ use Rattle.report_rules.specs.Rules.{is_fill, lacks_type, status_if, told, trans
 use Rattle.report_rules.specs.Rules.{own_said, party}
 use Rattle.report_rules.specs.Down.{IsId, IsOrdinary}
 use Rattle.report_rules.proofs.Codes.{exec_types, statuses, AreCodes, AreTerms, about_another}
-use Rattle.report_rules.proofs.Codes.{among_if, among_said, are_codes, code_among, executes}
+use Rattle.report_rules.proofs.Codes.{among_said, are_codes, code_among, executes}
 use Rattle.report_rules.proofs.Codes.{is_beside, so, terms_are, time_among, typed_by}
 use Rattle.report_rules.proofs.RowsDown.{is_other, IsTold, all_told, clear_back, id_said, ids_said}
 use Rattle.report_rules.proofs.RowsDown.{known_said, reason_said, role_id, text_said}
@@ -208,28 +209,20 @@ module _ (all : List Rule) (own : AreOwn kinds all) (letter : ℕ) (items : List
     -- ---- what the tables ask of a message
 
     no_row : (tag : ℕ) → has_row items tag ≡ false → at m tag ≡ None
-    no_row tag e = source.no_row (table50 letter items) m sound tag (by (row_of_tag tag items) e)
-      where
-        by : (o : Option (Row Kind)) → is_some o ≡ false → o ≡ None
-        by None e = refl
-        by (Some row) e = absurd cc
+    no_row tag e = source.no_row (table50 letter items) m sound tag (none_there _ e)
 
     terms : AreTerms (at m 40) (at m 59)
-    terms = by (has_row items 59) refl
-      where
-        type : among_if (codes "1234") (at m 40) ≡ true
-        type = code_among before (codes "1234") (at m 40)
-            (spelled (row Lenient 40 (Code (codes "1234"))) goes.type).spelled
-
-        by : (b : Bool) → has_row items 59 ≡ b → AreTerms (at m 40) (at m 59)
-        by true e =
-            let time = time_among before (at m 59) (spelled time_row goes.time).spelled in
-            let P : Said → Type 0 = λ v. is_beside v (at m 59) ≡ true in
-            terms_are (at m 40) (at m 59) type time.0
-            (subst P (value_before 40 (goes.timed e)) time.1)
-        by false e =
-            let P : Said → Type 0 = λ v. AreTerms (at m 40) v in
-            subst P (sym (no_row 59 e)) (terms_are (at m 40) None type refl refl)
+    terms =
+        let type = code_among before (codes "1234") (at m 40)
+        (spelled (row Lenient 40 (Code (codes "1234"))) goes.type).spelled in
+        elim (has_row items 59) as (λ b. has_row items 59 ≡ b → AreTerms (at m 40) (at m 59)) [
+          | true ↦ λ e.
+              let time = time_among before (at m 59) (spelled time_row goes.time).spelled in
+              terms_are (at m 40) (at m 59) type time.0
+              (subst (λ (v : Said). is_beside v (at m 59) ≡ true) (value_before 40 (goes.timed e))
+              time.1)
+          | false ↦ λ e. rw (no_row 59 e) (terms_are (at m 40) None type refl refl)
+        ] refl
 
     days_by : (date : Said) → IsSpelled before (Value Day) date
         → IfSome date (λ d. number_of_two (drop 6 d) ≡ digits_value 10 (drop 6 d))
@@ -350,15 +343,14 @@ module _ (all : List Rule) (own : AreOwn kinds all) (letter : ℕ) (items : List
 
       status_case : has_row items 39 ≡ true
           → IsSaid judge after (row Required 39 (Code statuses)) (own_said m OrdStatus)
-      status_case has = by (works_on (code_if m.cells 39) (code_if m.cells 150))
-        where
-          by : (b : Bool) → IsSaid judge after (row Required 39 (Code statuses))
-              (if b then Some (codes "5") else at m 39)
-          by true = code_said after 39 statuses 53 refl refl
-          by false =
-              let known = known_there 39 statuses goes.status has in
-              let P : Said → Type 0 = λ v. IsSaid judge after (row Required 39 (Code statuses)) v in
-              subst P (sym known.1) (code_said after 39 statuses known.0 refl known.2)
+      status_case has =
+          let known = known_there 39 statuses goes.status has in
+          elim (works_on (code_if m.cells 39) (code_if m.cells 150)) as
+          (λ b. IsSaid judge after (row Required 39 (Code statuses))
+          (if b then Some (codes "5") else at m 39)) [
+            | true ↦ code_said after 39 statuses 53 refl refl
+            | false ↦ rw known.1 (code_said after 39 statuses known.0 refl known.2)
+          ]
 
       -- ---- texts and dates
 

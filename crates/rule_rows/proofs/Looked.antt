@@ -6,7 +6,8 @@ use Rattle.std.proofs.lemmas.Bool.{eqb-true}
 use Rattle.std.specs.Prelude.{not, ◌&&◌, ◌==◌, is_some, if◌then◌else◌}
 use Rattle.std.specs.List.{AllByRecursion, flat_map, list_any}
 use Rattle.message_tables.specs.Tables.{Place, Said, Cell, Message, is_place, lines_of, said_at}
-use Rattle.sound_laws.proofs.Each.{both, each_same, each_two, either, none_each}
+use Rattle.sound_laws.proofs.Each.{both, each_same, each_two, either, none_each, none_there}
+use Rattle.sound_laws.proofs.Each.{not_true}
 use Rattle.sound_laws.proofs.Lookups.{place_is}
 use Rattle.rule_rows.specs.ByRules.{Target, At, Grouped, Kinds, by_rules, cells_at, groups_at}
 use Rattle.rule_rows.specs.ByRules.{has_any, has_place, lack_by, lack_if, outline, rule_cells}
@@ -73,17 +74,13 @@ module _ {Rule : Type 0} (kinds : Kinds Rule) where
   are_apart [] = true
   are_apart (rule ∷ rules) = not (is_some (rule_at (kinds.target rule) rules)) && are_apart rules
 
-  no_rule : (rule : Option Rule) → not (is_some rule) ≡ true → rule ≡ None
-  no_rule None h = refl
-  no_rule (Some rule) h = absurd cc
-
   -- a rule behind one of the same target
   no_second : (rule : Rule) (rules : List Rule) (target : Target)
       → not (is_some (rule_at (kinds.target rule) rules)) ≡ true
       → is_target (kinds.target rule) target ≡ true → rule_at target rules ≡ None
   no_second rule rules target none here =
       ap (λ (t : Target). rule_at t rules) (sym (same_target (kinds.target rule) target here))
-      ∙ no_rule (rule_at (kinds.target rule) rules) none
+      ∙ none_there (rule_at (kinds.target rule) rules) (not_true _ none)
 
   module _ (m : Message) where
     abbrev pub said_by : Option Rule → Said
