@@ -8,8 +8,8 @@ use Rattle.std.specs.Prelude.{is_some, not, IfSome, ◌&&◌}
 use Rattle.std.specs.List.{AllByRecursion, list_all, list_any}
 use Rattle.std.proofs.lemmas.Bool.{eqb-true}
 use Rattle.value_kinds.specs.ValueKind.{code_text, Code, is_code, spelling}
-use Rattle.message_tables.specs.Tables.{Said, ◌>>=◌, code_of, Optional, Verdict, Spells, Outside}
-use Rattle.message_tables.specs.Tables.{Wrong, is_listed, is_one_of, value_at}
+use Rattle.message_tables.specs.Tables.{Said, ◌>>=◌, code_of, Optional, Spells}
+use Rattle.message_tables.specs.Tables.{is_listed, is_one_of, value_at}
 use Rattle.reports_fix42.specs.Sense.{exec_of as exec42, phase_of as phase42}
 use Rattle.reports_fix50.specs.Sense.{exec_of as exec50, phase_of as phase50}
 use Rattle.sound_laws.proofs.Each.{both, one_of, all_true, each_map, not_true}
@@ -17,9 +17,10 @@ use Rattle.report_rules.specs.Rules.{coded, exec_type, id_down, is_event, is_sta
 use Rattle.report_rules.specs.Rules.{status_if, trans_type, works_on, at_close, time_down}
 use Rattle.report_rules.specs.Rules.{type_down}
 use Rattle.field_groups.specs.Field.{Field, is_soh}
-use Rattle.row_values.specs.Kinds.{TimeBeside, Value, counted, is_at_close, judge, row, verdict_of}
+use Rattle.row_values.specs.Kinds.{TimeBeside, Value, is_at_close, judge, row, verdict_of}
 use Rattle.rows_fix42.specs.Meaning.{is_on_close}
 use Rattle.sound_laws.specs.Sound.{IsSaid}
+use Rattle.sound_laws.proofs.Judged50.{counts}
 use Rattle.sound_laws.proofs.RowsSaid.{codes_said, is_code_of}
 
 coded_is : (code : Option ℕ) → (coded code >>= code_of) ≡ code
@@ -101,14 +102,14 @@ pub phase_kept : (code : Option ℕ) (status : Said)
     → phase42 (unwrap_or ((if works_on (status >>= code_of) code then Some (codes "5") else status)
     >>= code_of) 0) ≡ phase50 (unwrap_or (status >>= code_of) 0)
 unfolding phase50
-phase_kept code status = by (works_on (status >>= code_of) code) refl
-  where
-    by : (b : Bool) → works_on (status >>= code_of) code ≡ b
-        → phase42 (unwrap_or ((if b then Some (codes "5") else status) >>= code_of) 0)
-        ≡ phase50 (unwrap_or (status >>= code_of) 0)
-    by true e = sym (ap (λ (s : Option ℕ). phase50 (unwrap_or s 0))
-        (works_is (status >>= code_of) code e))
-    by false e = refl
+phase_kept code status =
+    elim (works_on (status >>= code_of) code) as (λ b. works_on (status >>= code_of) code ≡ b
+    → phase42 (unwrap_or ((if b then Some (codes "5") else status) >>= code_of) 0)
+    ≡ phase50 (unwrap_or (status >>= code_of) 0)) [
+      | true ↦ λ e. sym (ap (λ (s : Option ℕ). phase50 (unwrap_or s 0))
+          (works_is (status >>= code_of) code e))
+      | false ↦ λ e. refl
+    ] refl
 
 -- where one test holds, another one does
 abbrev implied : Bool → Bool → Bool
@@ -288,20 +289,13 @@ among_said fields tag listed (Some []) none h = absurd cc
 among_said fields tag listed (Some (c ∷ [])) none h = codes_said fields tag listed (Some c) none h
 among_said fields tag listed (Some (a ∷ b ∷ text)) none h = absurd cc
 
-counted_spells : (b : Bool) (v : Verdict) (text : List ℕ) → counted b v ≡ Spells text
-    → (v ≡ Spells text) × (b ≡ true)
-counted_spells true v text h = (h, refl)
-counted_spells false (Wrong reason) text h = absurd cc
-counted_spells false Outside text h = absurd cc
-counted_spells false (Spells other) text h = absurd cc
-
 pub time_among : (fields : List Field) (time : Said)
     → IfSome time (λ text. judge fields (TimeBeside 40) text ≡ Spells text)
     → (among_if (codes "01234567") time ≡ true) × (is_beside (value_at 40 fields) time ≡ true)
 unfolding judge
 time_among fields None h = (refl, refl)
 time_among fields (Some text) h =
-    let counts = counted_spells
+    let p = counts
     (not (is_at_close text) || is_listed (codes "12") (value_at 40 fields))
     (verdict_of (spelling (Code (codes "01234567")) text)) text h in
-    (code_among fields (codes "01234567") (Some text) counts.0, counts.1)
+    (code_among fields (codes "01234567") (Some text) p.1, p.0)

@@ -1,20 +1,19 @@
 -- The month and the day of a date.
 use Rattle.std.proofs.Common.{◌≡◌, ℕ, List, [], ◌∷◌, take, Bool, true, false, Option, Some, None}
 use Rattle.std.proofs.Common.{refl, sym, ap, subst, ◌∙◌, codes, arith, option_map}
-use Rattle.std.specs.Prelude.{IsSome, IfSome, drop, Ok, Err, Result, ◌&&◌, ◌||◌, if◌then◌else◌}
+use Rattle.std.specs.Prelude.{IsSome, IfSome, drop, Ok, Err, ◌&&◌, ◌||◌, if◌then◌else◌}
 use Rattle.std.specs.Result.{result_ok}
 use Rattle.std.specs.Str.Parse.{digits_value}
-use Rattle.typed_fields.specs.declared.fault.FieldFault.{FieldFault}
 use Rattle.typed_fields.specs.declared.month_year.MonthYear.{MonthYear as MonthValue}
 use Rattle.typed_fields.specs.Digits.{has_pattern, number_of}
 use Rattle.typed_fields.specs.Day.{day_number, is_date, read_day, spells_date}
 use Rattle.typed_fields.specs.MonthYear.{read_month_year, year_in, month_in}
-use Rattle.typed_fields.proofs.SpellingLemmas.{judged_ok, judged_good}
+use Rattle.typed_fields.proofs.SpellingLemmas.{judged_ok}
 use Rattle.field_groups.specs.Field.{Field}
-use Rattle.value_kinds.specs.ValueKind.{MonthYear, Day, DayOfMonth, Spelling, spelling, spelt}
+use Rattle.value_kinds.specs.ValueKind.{MonthYear, Day, DayOfMonth, Spelling, spelling}
 use Rattle.value_kinds.specs.ValueKind.{number_of_two, spelled as spelled_of}
 use Rattle.value_kinds.specs.ValueKind.{text_of as spelled_text}
-use Rattle.message_tables.specs.Tables.{Verdict, Spells, Wrong, Said, ◌>>=◌, has_tag, text_of}
+use Rattle.message_tables.specs.Tables.{Spells, Wrong, Said, ◌>>=◌, has_tag, text_of}
 use Rattle.message_tables.specs.Tables.{value_at}
 use Rattle.message_tables.proofs.Clean.{stands}
 use Rattle.row_values.specs.Kinds.{Value, DayOf, MonthBeside, filled, if_spelled, in_month, judge}
@@ -23,7 +22,7 @@ use Rattle.rows_fix50.specs.Header.{month_by}
 use Rattle.rows_fix50.specs.Maturity.{IsDate}
 use Rattle.rows_fix50.proofs.Dates as dates
 use Rattle.sound_laws.proofs.PlainRows.{spelled}
-use Rattle.sound_laws.proofs.ShortDays.{is_two, two_value}
+use Rattle.sound_laws.proofs.ShortDays.{is_month, is_two, month_of, two_value, was_read}
 
 -- ---- a date
 
@@ -58,28 +57,10 @@ day_value fields date h =
 
 -- ---- a month
 
-was_read : {A : Type 0} (text : List ℕ) (r : Result A FieldFault)
-    → verdict_of (spelt (λ _. text) r) ≡ Spells text → (x : A) × (r ≡ Ok x)
-was_read text (Ok x) h = (x, refl)
-was_read text (Err fault) h = absurd cc
-
-is_month : (text : List ℕ) → verdict_of (spelling MonthYear text) ≡ Spells text
-    → read_month_year text ≡ Ok (record { year = year_in text; month = month_in text })
-unfolding spelling
-is_month [] h = absurd cc
-is_month (b ∷ bs) h =
-    let read = was_read (b ∷ bs) (read_month_year (b ∷ bs)) h in
-    let parts = judged_ok (b ∷ bs) _ _
-    (record { year = year_in (b ∷ bs); month = month_in (b ∷ bs) }) read.0 read.1 in
-    judged_good (b ∷ bs) _ _ (record { year = year_in (b ∷ bs); month = month_in (b ∷ bs) })
-    parts.some parts.form parts.bound
-
 filled_spelled : (text : List ℕ) (s : Spelling) → filled text (if_spelled s) ≡ Spells text
     → verdict_of s ≡ Spells text
-filled_spelled [] s h = absurd cc
 filled_spelled (b ∷ bs) (Ok (Some other)) h = h
-filled_spelled (b ∷ bs) (Ok None) h = absurd cc
-filled_spelled (b ∷ bs) (Err fault) h = absurd cc
+filled_spelled text s h = absurd cc
 
 -- ---- the day of a month
 
@@ -119,12 +100,9 @@ module _ (before after : List Field) where
       let is = is_date_of date h in
       let text = drop 6 date in
       let said = ap (λ (value : Said). value >>= (λ t. result_ok (read_month_year t))) at
-      ∙ ap result_ok (is_month (take 6 date) (month_of_date date is)) in
+      ∙ ap result_ok (is_month (take 6 date) (month_of_date date is)).read in
       ap (λ (o : Option MonthValue). in_month o (verdict_of (spelling DayOfMonth text))) said
-      ∙ ap (λ (v : Verdict). in_month (Some (record {
-        year = year_in (take 6 date);
-        month = month_in (take 6 date);
-      })) v) (two_of_date date is)
+      ∙ ap (in_month (Some (month_of (take 6 date)))) (two_of_date date is)
       ∙ ap (λ (b : Bool). if b then Spells text else Wrong 5)
       (day_there date is (date_good date h))
 

@@ -6,8 +6,8 @@ use Rattle.rule_rows.specs.ByRules.{outline}
 use Rattle.rule_rows.proofs.Looked.{AreKinds, AreOwn, absent}
 use Rattle.rule_rows.specs.Rules.{By, Same}
 use Rattle.rule_rows.proofs.Own.{are_with}
-use Rattle.report_rules.specs.Rules.{Own, OrKnown, PartyOf, ExecId, TransType, ExecType, OrdStatus}
-use Rattle.report_rules.specs.Rules.{Another, Traded, Within, Told, Month, DayOfDate, OrdType, Time}
+use Rattle.report_rules.specs.Rules.{Own, OrKnown, TransType}
+use Rattle.report_rules.specs.Rules.{Told, Time}
 use Rattle.report_rules.specs.Rules.{at, at_close, down_rules, has, kinds, own_kinds, own_lack}
 use Rattle.report_rules.specs.Rules.{Rule, own_said, sources, Original}
 
@@ -20,19 +20,9 @@ none_by : (m : Message) (rule : Own)
     → AllByRecursion (λ place. said_at m.cells place ≡ None) (sources rule)
     → has (outline m) rule ≡ false → own_said m rule ≡ None
 none_by m (OrKnown known) none h = absurd cc
-none_by m (PartyOf role to) none h = none.0
-none_by m ExecId none h = rw none.0 refl
-none_by m TransType none h = rw none.0 refl
-none_by m ExecType none h = rw none.0 refl
-none_by m OrdStatus none h = rw none.0 refl
-none_by m (Another tag) none h = none.0
-none_by m (Traded tag) none h = none.0
-none_by m (Within tag last other) none h = rw none.0 refl
 none_by m Told none h = rw (none.0, none.1.0, none.1.1.0, none.1.1.1.0) refl
-none_by m Month none h = none.0
-none_by m DayOfDate none h = rw none.0 refl
-none_by m OrdType none h = rw none.0 refl
 none_by m Time none h = rw (none.0, no_close (at m 40 >>= code_of)) refl
+none_by m rule none h = rw none.0 refl
 
 says_none : (m : Message) (rule : Own) → has (outline m) rule ≡ false → own_said m rule ≡ None
 says_none m (OrKnown known) h = absurd cc

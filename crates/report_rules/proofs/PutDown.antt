@@ -136,13 +136,12 @@ module _ (msg_type : List ℕ) (fields : List Field) where
     nine test =
         let P : Bool → Type 0 = λ b. IsGoodBy (if b then Some report_table else
         (if bytes_eq msg_type (codes "9") then Some cancel_reject_table else None)) fields in
-        by (bytes_eq msg_type (codes "9")) refl (subst P test good)
-      where
-        by : (b : Bool) → bytes_eq msg_type (codes "9") ≡ b
-            → IsGoodBy (if b then Some cancel_reject_table else None) fields → IsNine
-        by true e h =
-            record { is = sym ((bytes_eq-Decides msg_type (codes "9")).0 e); none = h }
-        by false e h = absurd h
+        elim (bytes_eq msg_type (codes "9")) as (λ b. bytes_eq msg_type (codes "9") ≡ b
+        → IsGoodBy (if b then Some cancel_reject_table else None) fields → IsNine) [
+          | true ↦ λ e h.
+              record { is = sym ((bytes_eq-Decides msg_type (codes "9")).0 e); none = h }
+          | false ↦ λ e h. absurd h
+        ] refl (subst P test good)
 
 -- ---- the two reports
 

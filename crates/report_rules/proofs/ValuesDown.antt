@@ -22,16 +22,13 @@ pub reason_kept : (last other : ℕ) (text : List ℕ) → number_in text ≡ So
     → (reason_down last text reason >>= number_in)
     ≡ option_map (reason_within last other) (reason >>= number_in)
 reason_kept last other text is None = refl
-reason_kept last other text is (Some reason) = by (number_in reason) refl
-  where
-    by : (n : Option ℕ) → number_in reason ≡ n
-        → number_in (within last text reason n) ≡ option_map (reason_within last other) n
-    by None e = e
-    by (Some n) e = test (nat_le n last)
-      where
-        test : (b : Bool) → number_in (if b then reason else text) ≡ Some (if b then n else other)
-        test true = e
-        test false = is
+reason_kept last other text is (Some reason) =
+    elim (number_in reason) as (λ n. number_in reason ≡ n
+    → number_in (within last text reason n) ≡ option_map (reason_within last other) n) [
+      | None ↦ λ e. e
+      | Some n ↦ λ e. elim (nat_le n last) as (λ b. number_in (if b then reason else text)
+          ≡ Some (if b then n else other)) [ true ↦ e | false ↦ is ]
+    ] refl
 
 -- the reasons of FIX 4.2 that stand for later ones
 pub other_0 : number_in (codes "0") ≡ Some 0
@@ -127,11 +124,8 @@ pub same_terms : (type time : Said) → meaning42.is_on_close (type >>= code_of)
     → IfSome (type >>= code_of) (λ c. IfSome (time >>= code_of)
     (λ t. (t == 55) ≡ at_close (Some c) (Some t)))
     → terms42 (type_down type time) (time_down type time) ≡ terms50 type time
-same_terms type time plain close = by (at_close (type >>= code_of) (time >>= code_of))
-    ∙ by_codes (type >>= code_of) (time >>= code_of) plain close
-  where
-    by : (b : Bool)
-        → terms42 (if b then on_close (type >>= code_of) else type) (if b then None else time)
-        ≡ (if b then terms42 (on_close (type >>= code_of)) None else terms42 type time)
-    by true = refl
-    by false = refl
+same_terms type time plain close =
+    (elim (at_close (type >>= code_of) (time >>= code_of)) as
+    (λ b. terms42 (if b then on_close (type >>= code_of) else type) (if b then None else time)
+    ≡ (if b then terms42 (on_close (type >>= code_of)) None else terms42 type time))
+    [ true ↦ refl | false ↦ refl ]) ∙ by_codes (type >>= code_of) (time >>= code_of) plain close

@@ -1,18 +1,17 @@
 -- A month and its day as a date, and the month beside it.
-use Rattle.std.proofs.Common.{◌≡◌, ℕ, List, [], ◌∷◌, ◌++◌, length, take, Bool, true, false, Option}
+use Rattle.std.proofs.Common.{◌≡◌, ℕ, List, [], ◌∷◌, ◌++◌, length, take, true, false, Option}
 use Rattle.std.proofs.Common.{Some, None, refl, sym, ap, ◌∙◌, codes, arith}
 use Rattle.std.proofs.lemmas.List.{take_at}
-use Rattle.std.specs.Prelude.{IfSome, Ok, Err, Result, if◌then◌else◌}
+use Rattle.std.specs.Prelude.{IfSome, Ok, if◌then◌else◌}
 use Rattle.std.specs.Char.{is_ascii_digit}
 use Rattle.std.specs.Str.Parse.{digits_value}
 use Rattle.std.specs.Result.{result_ok}
-use Rattle.typed_fields.specs.declared.fault.FieldFault.{FieldFault}
 use Rattle.typed_fields.specs.declared.month_year.MonthYear.{MonthYear as MonthValue}
 use Rattle.typed_fields.specs.Digits.{has_pattern, number_of}
 use Rattle.typed_fields.specs.Day.{is_date, day_number}
 use Rattle.typed_fields.specs.MonthYear.{read_month_year, year_in, month_in}
 use Rattle.typed_fields.proofs.DigitsLemmas.{length-has_pattern}
-use Rattle.typed_fields.proofs.SpellingLemmas.{judged_ok, judged_good}
+use Rattle.typed_fields.proofs.SpellingLemmas.{judged_good}
 use Rattle.field_groups.specs.Field.{Field}
 use Rattle.value_kinds.specs.ValueKind.{MonthYear, Day, DayOfMonth, Spelling, spelling, spelt}
 use Rattle.value_kinds.specs.ValueKind.{number_of_two}
@@ -20,7 +19,7 @@ use Rattle.message_tables.specs.Tables.{Verdict, Spells, Wrong, Said, ◌>>=◌,
 use Rattle.row_values.specs.Kinds.{Value, DayOf, MonthBeside, judge, verdict_of, in_month, month_at}
 use Rattle.row_values.specs.Kinds.{if_spelled, month_beside}
 use Rattle.sound_laws.proofs.Each.{both}
-use Rattle.sound_laws.proofs.ShortDays.{is_two, two_value}
+use Rattle.sound_laws.proofs.ShortDays.{is_month, is_two, month_of, two_value}
 use Rattle.sound_laws.proofs.SpelledAgain.{IsTwo}
 use Rattle.request_rules.specs.Rules.{date_up}
 
@@ -35,14 +34,13 @@ pub day_in : (month : Option MonthValue) (v : Verdict) (day : List ℕ)
     → in_month month v ≡ Spells day → (v ≡ Spells day) × HasDay month day
 day_in None v day h = (h, tt)
 day_in (Some month) (Spells other) day h =
-    by (is_date month.year month.month (number_of_two other)) refl h
-  where
-    by : (good : Bool) → is_date month.year month.month (number_of_two other) ≡ good
-        → (if good then Spells other else Wrong 5) ≡ Spells day
-        → (Spells other ≡ Spells day)
-        × (is_date month.year month.month (number_of_two day) ≡ true)
-    by true e h = let same : other ≡ day = cc in (h, rw (← same) e)
-    by false e h = absurd cc
+    elim (is_date month.year month.month (number_of_two other)) as
+    (λ good. is_date month.year month.month (number_of_two other) ≡ good
+    → (if good then Spells other else Wrong 5) ≡ Spells day → (Spells other ≡ Spells day)
+    × (is_date month.year month.month (number_of_two day) ≡ true)) [
+      | true ↦ λ e h. let same : other ≡ day = cc in (h, rw (← same) e)
+      | false ↦ λ e h. absurd (cc h)
+    ] refl h
 day_in other v day h = absurd cc
 
 -- a day of FIX 4.2 has two digits
@@ -59,28 +57,6 @@ day_two fields bytes text h = is_two bytes text
     (day_in (month_at 200 fields) (verdict_of (spelling DayOfMonth bytes)) text h).0
 
 -- ---- a month
-
-abbrev month_of : List ℕ → MonthValue
-month_of text = record { year = year_in text; month = month_in text }
-
-month_read : (text : List ℕ) (r : Result MonthValue FieldFault)
-    → verdict_of (spelt (λ _. text) r) ≡ Spells text → (x : MonthValue) × (r ≡ Ok x)
-month_read text (Ok x) h = (x, refl)
-month_read text (Err fault) h = absurd cc
-
-record IsMonth (text : List ℕ) : Type 0 where
-  form : has_pattern (codes "YYYYMM") text ≡ true
-  read : read_month_year text ≡ Ok (month_of text)
-
-is_month : (text : List ℕ) → verdict_of (spelling MonthYear text) ≡ Spells text → IsMonth text
-unfolding spelling
-is_month [] h = absurd cc
-is_month (b ∷ bs) h =
-    let read = month_read (b ∷ bs) (read_month_year (b ∷ bs)) h in
-    let parts = judged_ok (b ∷ bs) _ _ (month_of (b ∷ bs)) read.0 read.1 in record {
-      form = parts.form;
-      read = judged_good (b ∷ bs) _ _ (month_of (b ∷ bs)) parts.some parts.form parts.bound;
-    }
 
 pub month_length : (fields : List Field) (text : List ℕ)
     → judge fields (Value MonthYear) text ≡ Spells text → length text ≡ 6

@@ -6,7 +6,7 @@ use Rattle.message_tables.specs.Tables.{Message, Said, said_at}
 use Rattle.rule_rows.specs.ByRules.{outline}
 use Rattle.rule_rows.proofs.Looked.{AreKinds, AreOwn, absent}
 use Rattle.rule_rows.proofs.Own.{are_with}
-use Rattle.request_rules.specs.Rules.{Listed, Parties, PartyOf, Month, Date, OrdType, Time, at}
+use Rattle.request_rules.specs.Rules.{Parties, Date, Time, at}
 use Rattle.request_rules.specs.Rules.{date_up, kinds, up_rules, party_tags, sources, Own, own_kinds}
 
 no_day : (month : Said) → date_up month None ≡ None
@@ -16,13 +16,10 @@ no_day (Some month) = refl
 none_by : (m : Message) (rule : Own)
     → AllByRecursion (λ place. said_at m.cells place ≡ None) (sources rule)
     → own_kinds.said m rule ≡ None
-none_by m (Listed from to listed) none = none.0
 none_by m Parties none = refl
-none_by m (PartyOf who) none = none.0
-none_by m Month none = none.0
 none_by m Date none = rw none.0 (no_day (at m 200))
-none_by m OrdType none = rw none.0 refl
 none_by m Time none = rw (none.0, none.1.0) refl
+none_by m rule none = rw none.0 refl
 
 says_no_lines : (m : Message) (rule : Own) → own_kinds.has (outline m) rule ≡ false
     → own_kinds.lines m rule ≡ []

@@ -124,11 +124,8 @@ one_byte fields (a ∷ b ∷ text) h =
 pub listed_is : (listed : List ℕ) (code : Option ℕ) → is_unlisted listed code ≡ false
     → IfSome code (λ c. is_one_of listed c ≡ true)
 listed_is listed None h = tt
-listed_is listed (Some code) h = by (is_one_of listed code) h
-  where
-    by : (b : Bool) → not b ≡ false → b ≡ true
-    by true h = refl
-    by false h = absurd cc
+listed_is listed (Some code) h = elim (is_one_of listed code) as (λ b. not b ≡ false → b ≡ true)
+    [ true ↦ λ h. refl | false ↦ λ h. absurd (cc h) ] h
 
 -- whether each code that is said is listed
 abbrev pub are_listed : List ℕ → Said → Bool

@@ -112,27 +112,23 @@ module _ (items : List (Item Kind)) where
       → option_map target_of (turned turn (row_of_tag from items))
       ≡ target_if (has_any (outline_of items) (Tag from ∷ [])) (At (Tag to))
   turned_made turn from to tag =
-      by (row_of_tag from items)
+      (elim (row_of_tag from items) as (λ row. option_map target_of (turned turn row)
+      ≡ target_if (is_some row) (At (Tag to)))
+      [ None ↦ refl | Some row ↦ ap (λ t. Some (At (Tag t))) (tag row) ])
       ∙ ap (λ b. target_if b (At (Tag to))) (sym (has_one (Tag from) ∙ row_there items from))
-    where
-      by : (row : Option (Row Kind))
-          → option_map target_of (turned turn row) ≡ target_if (is_some row) (At (Tag to))
-      by None = refl
-      by (Some row) = ap (λ t. Some (At (Tag t))) (tag row)
 
   pub turned_group_made : (turn : RepeatingGroup Kind → RepeatingGroup Kind) (count : ℕ)
       → ((group : RepeatingGroup Kind) → (turn group).count ≡ group.count)
       → option_map target_of (turned_group turn (group_at count items))
       ≡ target_if (has_group (outline_of items) count) (Grouped count)
   turned_group_made turn count same =
-      by (group_at count items) refl
-      ∙ ap (λ b. target_if b (Grouped count)) (sym (group_there items count))
-    where
-      by : (group : Option (RepeatingGroup Kind)) → group_at count items ≡ group
-          → option_map target_of (turned_group turn group)
-          ≡ target_if (is_some group) (Grouped count)
-      by None e = refl
-      by (Some group) e = ap (λ n. Some (Grouped n)) (same group ∙ count_is count items group e)
+      (elim (group_at count items) as (λ group. group_at count items ≡ group
+      → option_map target_of (turned_group turn group)
+      ≡ target_if (is_some group) (Grouped count)) [
+        | None ↦ λ e. refl
+        | Some group ↦ λ e.
+            ap (λ n. Some (Grouped n)) (same group ∙ count_is count items group e)
+      ] refl) ∙ ap (λ b. target_if b (Grouped count)) (sym (group_there items count))
 
 -- an item where this holds
 pub item_made : (b : Bool) (item : Item Kind)

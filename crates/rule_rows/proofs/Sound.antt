@@ -138,13 +138,13 @@ module _ {Rule : Type 0} (g : Goes Rule) where
       → ((row : Row Kind) → Fits row → IsSaid judge before row (at from) → AreGroups
       → IsSaid judge after (turn row) (g.kinds.said g.m rule))
       → IsGood (turned turn (row_of_tag from items))
-  turned_good Fits rule from turn is found fit h = by (row_of_tag from items) refl fit
-    where
-      by : (row : Option (Row Kind)) → row_of_tag from items ≡ row → IfSome row Fits
-          → IsGood (turned turn row)
-      by None e fit = nothing
-      by (Some row) e fit = row_good rule (turn row) (is row) found
-          (h row fit (source.row_at g.table g.m g.sound from row e))
+  turned_good Fits rule from turn is found fit h =
+      elim (row_of_tag from items) as (λ row. row_of_tag from items ≡ row → IfSome row Fits
+      → IsGood (turned turn row)) [
+        | None ↦ λ e fit. nothing
+        | Some row ↦ λ e fit. row_good rule (turn row) (is row) found
+            (h row fit (source.row_at g.table g.m g.sound from row e))
+      ] refl fit
 
   -- a row where this holds
   pub own_good : (rule : Rule) (b : Bool) (row : Row Kind) → g.kinds.target rule ≡ At (Tag row.tag)
@@ -192,18 +192,18 @@ module _ {Rule : Type 0} (g : Goes Rule) where
       → ((group : RepeatingGroup Kind) (lines : List (List Cell)) → Fits group
       → IsGroup judge group lines → IsGroup judge (turn group) lines)
       → IsGood (turned_group turn (group_at count items))
-  carried_good Fits rule count turn same is lines found fit h = by (group_at count items) refl fit
-    where
-      by : (group : Option (RepeatingGroup Kind)) → group_at count items ≡ group → IfSome group Fits
-          → IsGood (turned_group turn group)
-      by None e fit = nothing
-      by (Some group) e fit =
-          let P : List (List Cell) → Type 0 = λ lines. IsGroup judge (turn group) lines in
-          let Q : ℕ → Type 0 = λ c. IsGroup judge (turn group) (lines_of c w.groups) in
-          group_good (turn group) (subst Q (sym (same group ∙ count_is count items group e))
-          (subst P (sym (lines_are rule count is found ∙ lines))
-          (h group (lines_of count g.m.groups) fit
-          (source.group_is g.table g.m g.sound count group e))))
+  carried_good Fits rule count turn same is lines found fit h =
+      elim (group_at count items) as (λ group. group_at count items ≡ group → IfSome group Fits
+      → IsGood (turned_group turn group)) [
+        | None ↦ λ e fit. nothing
+        | Some group ↦ λ e fit.
+            let P : List (List Cell) → Type 0 = λ lines. IsGroup judge (turn group) lines in
+            let Q : ℕ → Type 0 = λ c. IsGroup judge (turn group) (lines_of c w.groups) in
+            group_good (turn group) (subst Q (sym (same group ∙ count_is count items group e))
+            (subst P (sym (lines_are rule count is found ∙ lines))
+            (h group (lines_of count g.m.groups) fit
+            (source.group_is g.table g.m g.sound count group e))))
+      ] refl fit
 
   -- ---- the whole
 

@@ -106,7 +106,7 @@ plain_row row h =
 
 -- ---- groups
 
-abbrev apart_tests : GroupTags → List Bool
+abbrev pub apart_tests : GroupTags → List Bool
 apart_tests g =
     is_inside g g.first ∷ not (g.first == g.count) ∷ not (is_one_of g.skipped g.first)
     ∷ not (is_inside g g.count) ∷ []
@@ -115,7 +115,7 @@ abbrev is_plain_group : RepeatingGroup Kind → Bool
 is_plain_group group =
     list_all is_plain_row group.rows && list_all (λ b. b) (apart_tests (tags_in group))
 
-apart : (g : GroupTags) → list_all (λ b. b) (apart_tests g) ≡ true → IsPlain g
+pub apart : (g : GroupTags) → list_all (λ b. b) (apart_tests g) ≡ true → IsPlain g
 apart g h = let t = all_true (λ b. b) (apart_tests g) h in record {
   first_inside = t.0;
   first_counts_not = not_true _ t.1.0;

@@ -5,7 +5,7 @@ use Rattle.std.specs.Prelude.{not, ◌==◌}
 use Rattle.std.specs.List.{AllByRecursion, flat_map, list_all}
 use Rattle.field_groups.specs.Field.{Field}
 use Rattle.message_tables.specs.Tables.{Need, Required, Row, RepeatingGroup, Item, Table, Message}
-use Rattle.message_tables.specs.Tables.{is_inside, is_one_of, row_at, rows_of, all_rows, groups_of}
+use Rattle.message_tables.specs.Tables.{is_one_of, row_at, rows_of, all_rows, groups_of}
 use Rattle.message_tables.specs.Tables.{groups_in, tags_of, tags_in}
 use Rattle.message_tables.specs.FirstFault.{once_in, is_passed, group_tags_in}
 use Rattle.row_values.specs.Kinds.{Kind, Value, Byte, Version, judge}
@@ -13,6 +13,7 @@ use Rattle.sound_laws.specs.Sound.{places_of}
 use Rattle.sound_laws.proofs.Each.{all_false, all_true, are_apart, each_by, each_back, each_joined}
 use Rattle.sound_laws.proofs.Each.{each_part, each_two, either, not_true}
 use Rattle.sound_laws.proofs.Lookups.{places_apart, rows_found}
+use Rattle.sound_laws.proofs.PlainRows.{apart, apart_tests}
 use Rattle.sound_laws.proofs.Stages.{item_tags, GroupFits, HasFirst, IsAlone, IsFit}
 use Rattle.sound_laws.proofs.Found.{are_after}
 use Rattle.sound_laws.proofs.GroupStage.{is_beside}
@@ -43,10 +44,7 @@ group_tests table group =
     has_first group.rows
     ∷ are_apart (group.count ∷ tags_of group.rows)
     ∷ list_all (λ t. not (is_one_of group.skipped t)) (tags_of group.rows)
-    ∷ is_inside (tags_in group) (tags_in group).first
-    ∷ not ((tags_in group).first == group.count)
-    ∷ not (is_one_of group.skipped (tags_in group).first)
-    ∷ not (is_inside (tags_in group) group.count)
+    ∷ list_all (λ b. b) (apart_tests (tags_in group))
     ∷ list_all (λ t. not (is_one_of (once_in table) t)) (tags_of group.rows)
     ∷ not (is_one_of (tags_of (all_rows table)) group.count)
     ∷ is_passed table group.count
@@ -96,16 +94,10 @@ group_fits : (table : Table Kind) (group : RepeatingGroup Kind)
     → all_hold (group_tests table group) ≡ true → GroupFits judge table group
 group_fits table group h =
     let t = all_true (λ b. b) (group_tests table group) h in
-    let plain = t.1.1.1 in
-    let own = plain.1.1.1.1 in
+    let own = t.1.1.1.1 in
     record {
       first = first_is group.rows t.0;
-      plain = record {
-        first_inside = plain.0;
-        first_counts_not = not_true _ plain.1.0;
-        first_is_said = not_true _ plain.1.1.0;
-        count_outside = not_true _ plain.1.1.1.0;
-      };
+      plain = apart (tags_in group) t.1.1.1.0;
       apart = t.1.0;
       kept = all_false (is_one_of group.skipped) (tags_of group.rows) t.1.1.0;
       members = all_false (is_one_of (once_in table)) (tags_of group.rows) own.0;

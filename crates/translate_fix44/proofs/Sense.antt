@@ -50,11 +50,11 @@ same_code (Some code) = refl
 pub turned_is : (from to : ℕ) (P : ℕ → ℕ → Type 0) → P from to
     → ((code : ℕ) → (from == code) ≡ false → P code code)
     → (code : ℕ) → P code (turn (Some (from, to)) code)
-turned_is from to P turns other code = by (from == code) refl
-  where
-    by : (b : Bool) → (from == code) ≡ b → P code (if b then to else code)
-    by true e = subst (λ (c : ℕ). P c to) (eqb-true from code e) turns
-    by false e = other code e
+turned_is from to P turns other code =
+    elim (from == code) as (λ b. (from == code) ≡ b → P code (if b then to else code)) [
+      | true ↦ λ e. subst (λ (c : ℕ). P c to) (eqb-true from code e) turns
+      | false ↦ λ e. other code e
+    ] refl
 
 -- ---- ExecType and ExecID
 

@@ -157,11 +157,12 @@ module _ (up : Bool) (all : List Rule) (way : AreWay all) (letter : ℕ) (items 
       (role_id g.table m sound there 4))
 
   parties_good : Asks items Parties → RuleGood g (By Parties)
-  parties_good fit = by (has_rule items Parties) refl
-    where
-      by : (b : Bool) → has_rule items Parties ≡ b → IsGood g (item_if b (Lines parties))
-      by true e = lines_good g true parties (three (fit e))
-      by false e = record { groups = tt; said = λ groups. tt }
+  parties_good fit =
+      elim (has_rule items Parties) as (λ b. has_rule items Parties ≡ b
+      → IsGood g (item_if b (Lines parties))) [
+        | true ↦ λ e. lines_good g true parties (three (fit e))
+        | false ↦ λ e. record { groups = tt; said = λ groups. tt }
+      ] refl
 
   role_said : (who : Who) → IsFound kinds all (By (PartyOf who))
       → IsItem judge after (w g) (Party (role_of who))

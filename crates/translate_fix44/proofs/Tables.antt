@@ -51,18 +51,12 @@ nothing m (Else tag known) h =
     let none = no_place (has_place (outline m) (Tag tag)) (at m tag) known tag
     (either (has_place (outline m) (Tag tag)) false h).0 in
     (none.0, refl, none.1)
-nothing m (Turned tag listed turns) h =
-    let none = absent m (sources (Turned tag listed turns)) h in rw none.0 (refl, refl, refl)
-nothing m AtClose h = let none = absent m (sources AtClose) h in rw none.0 (refl, refl, refl)
 nothing m Parties h =
     let none = absent m (sources Parties) h in rw (none.0, none.1.0, none.1.1.0) (refl, refl, refl)
-nothing m (PartyOf who) h =
-    let none = absent m (sources (PartyOf who)) h in (none.0, refl, refl)
-nothing m (Within tag last other) h =
-    let none = absent m (sources (Within tag last other)) h in rw none.0 (refl, refl, refl)
 nothing m Told h =
     let none = absent m (sources Told) h in
     rw (none.0, none.1.0, none.1.1.0, none.1.1.1.0) (refl, refl, refl)
+nothing m rule h = let none = absent m (sources rule) h in rw none.0 (refl, refl, refl)
 
 pub are_kinds : AreKinds kinds
 are_kinds = are_with own_kinds (record {
