@@ -7,18 +7,18 @@ use Rattle.row_values.specs.Kinds.{judge}
 use Rattle.reports_fix50.specs.Message.{cancel_reject_table, report_by, report_table}
 use Rattle.sound_laws.specs.Complete.{IsComplete}
 use Rattle.sound_laws.proofs.PlainFields.{clear_fields}
-use Rattle.report_rules.proofs.ReadDown.{reject_complete, reject_read, report_complete, report_read}
+use Rattle.report_rules.proofs.ReadDown.{reject_read, report_read}
 
 pub report_is : (fields : List Field) (fault : Option SplitFault) (m : Message)
     → AreFields None fields → report_by report_table fields fault ≡ Ok m
     → IsComplete report_table m
 report_is fields (Some fault) m are read = absurd cc
 report_is fields None m are read =
-    report_complete m (report_read fields (clear_fields judge None fields are) m read).read
+    (report_read fields (clear_fields judge None fields are) m read).complete
 
 pub reject_is : (fields : List Field) (fault : Option SplitFault) (m : Message)
     → AreFields None fields → report_by cancel_reject_table fields fault ≡ Ok m
     → IsComplete cancel_reject_table m
 reject_is fields (Some fault) m are read = absurd cc
 reject_is fields None m are read =
-    reject_complete m (reject_read fields (clear_fields judge None fields are) m read).read
+    (reject_read fields (clear_fields judge None fields are) m read).complete

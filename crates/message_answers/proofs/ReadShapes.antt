@@ -27,7 +27,7 @@ use Rattle.reports_fix50.specs.Message.{message50}
 use Rattle.reports_fix50.specs.Message as reports50
 use Rattle.sound_laws.proofs.PlainFields.{clear_fields, has_good_tags}
 use Rattle.report_rules.specs.Down.{IsReport50, Rejects50, Reports50}
-use Rattle.report_rules.proofs.ReadDown.{reject_complete, reject_read, report_complete, report_read}
+use Rattle.report_rules.proofs.ReadDown.{reject_read, report_read}
 use Rattle.reject_rules.specs.Laws.{HasWords}
 use Rattle.event_decisions.specs.Body.{fields_of, reading_of, type_of}
 use Rattle.event_decisions.proofs.Bodies.{bodies_are_read}
@@ -342,9 +342,9 @@ module _ (side : Side) (body : List ℕ) (m : Message) where
         by : (name : TableName) → side_of name ≡ Venue → read_as name (fields_of body) None ≡ Ok m
             → is_refusal (said_as name (fields_of body)) ≡ false → IsReport50 m
         by Report50 of read none =
-            Reports50 (report_complete m (report_read (fields_of body) clear m read).read)
+            Reports50 (report_read (fields_of body) clear m read).complete
         by CancelReject50 of read none =
-            Rejects50 (reject_complete m (reject_read (fields_of body) clear m read).read)
+            Rejects50 (reject_read (fields_of body) clear m read).complete
         by Reject50 of read none = absurd cc
         by Business50 of read none = absurd cc
         by name of read none = absurd cc

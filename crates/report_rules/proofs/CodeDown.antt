@@ -1,22 +1,13 @@
 -- What the code writes by a kind of rule of its own is what the rule writes of the message that was
 -- read, and it lacks what that lacks.
-use Rattle.std.proofs.Common.{◌≡◌, ◌≤◌, ◌<◌, ◌^◌, ℕ, [], ◌∷◌, ◌++◌, Bool, true, false, Option, Some}
-use Rattle.std.proofs.Common.{None, refl, sym, ap, ◌∙◌, codes, arith, option_map, length, nat_le}
+use Rattle.std.proofs.Common.{◌≡◌, ℕ, [], ◌∷◌, ◌++◌, Bool, true, false, Option, Some}
+use Rattle.std.proofs.Common.{None, refl, sym, ap, ◌∙◌, codes, option_map}
 use Rattle.std.proofs.Common.{List}
 use Rattle.std.specs.Prelude.{IfSome, drop, ◌==◌, ◌&&◌, not, is_some, unwrap_or, if◌then◌else◌}
 use Rattle.std.specs.Prelude.{Ok, Err}
-use Rattle.std.specs.Fmt.{decimal}
-use Rattle.std.specs.Int.{is_in_range}
 use Rattle.std.specs.Result.{result_ok}
-use Rattle.std.specs.Str.Parse.{digits_value}
-use Rattle.std.proofs.lemmas.Bool.Decides.{nat_tests}
-use Rattle.std.proofs.lemmas.Fmt.{digits_decimal, digits_value-decimal, decimal_nonempty}
-use Rattle.std.proofs.lemmas.Fmt.{length-decimal-le}
 use Rattle.typed_fields.specs.declared.number.Number.{Number}
-use Rattle.typed_fields.specs.Digits.{are_digits, number_of as number_in_digits}
 use Rattle.typed_fields.specs.Number.{IsNumber, number_text, read_number}
-use Rattle.typed_fields.proofs.DateLemmas.{in_range_holds}
-use Rattle.typed_fields.proofs.DigitsLemmas.{numerals}
 use Rattle.typed_fields.proofs.NumberLaws.{number_in_bound}
 use Rattle.field_groups.specs.Field.{Field}
 use Rattle.field_groups.specs.HeadValues.{number_in}
@@ -29,6 +20,7 @@ use Rattle.order_meaning.specs.Report.{or_known}
 use Rattle.rows_fix50.specs.Meaning.{id_of}
 use Rattle.reports_fix50.specs.Sense.{reason_told, telling}
 use Rattle.sound_laws.proofs.Each.{none_there, not_true}
+use Rattle.sound_laws.proofs.GroupStage.{number_said}
 use Rattle.sound_laws.proofs.RowsSaid.{row_of_tag}
 use Rattle.rule_rows.specs.ByRules.{lack_if, rule_fields}
 use Rattle.rule_rows.specs.Texts.{Facts, Has, OfKind, OfKinds, Own as OwnText, is_kept}
@@ -51,25 +43,11 @@ use Rattle.report_rules.specs.Rules.{told as told_of, trans_type, within, works_
 
 -- ---- values
 
--- the spelling of a number says that number
-pub number_says : (n : Number) → IsNumber n → number_in (number_text n) ≡ Some n.value
-unfolding number_in number_in_digits are_digits
-number_says n good =
-    let v = decimal n.value in
-    let wide : n.value < 2 ^ 64 = omega (arith, good) in
-    let number : digits_value 10 v ≡ n.value = digits_value-decimal numerals n.value wide in
-    let digits : are_digits v ≡ true = digits_decimal numerals n.value wide in
-    let long : 1 ≤ length v = decimal_nonempty n.value wide in
-    let short : length v ≤ 10 = length-decimal-le 10 n.value (omega arith) (omega arith) wide in
-    let sized : is_in_range 1 10 (length v) ≡ true = in_range_holds 1 10 (length v) long short in
-    let bound : nat_le n.value 1_000_000_000 ≡ true = grind (arith, nat_tests) in
-    rw (sized, digits, number, bound) refl
-
 number_is : (n : Option Number) (text : Said) → IfSome n IsNumber
     → text ≡ option_map number_text n → number_of n ≡ (text >>= number_in)
 number_is None text good is = ap (λ (t : Said). t >>= number_in) (sym is)
 number_is (Some n) text good is =
-    sym (number_says n good) ∙ ap (λ (t : Said). t >>= number_in) (sym is)
+    sym (number_said n.value good) ∙ ap (λ (t : Said). t >>= number_in) (sym is)
 
 -- a reason, or another one
 reason_is : (last other : ℕ) (n : Option Number) (text : Said) → IfSome n IsNumber
@@ -78,7 +56,7 @@ reason_is : (last other : ℕ) (n : Option Number) (text : Said) → IfSome n Is
 reason_is last other None text good is = ap (reason_down last (code_text other)) (sym is)
 reason_is last other (Some n) text good is =
     ap (λ (v : Option ℕ). Some (within last (code_text other) (number_text n) v))
-    (sym (number_says n good))
+    (sym (number_said n.value good))
     ∙ ap (reason_down last (code_text other)) (sym is)
 
 close_is : (type : Option ℕ) → option_map code_text (option_map close_code type) ≡ on_close type

@@ -151,28 +151,20 @@ pub reject_sound : (known : Said) → IfSome known IsId → (m w : Message)
 reject_sound known id m w c d = sound (Original known) (reject_own known) 57
     reports50.cancel_reject (reject_goes known id) m w c d
 
--- what is written is read again
-report_again : (w : Message) → IsSound judge tables42.execution_report_table w
-    → message42 (56 ∷ []) (content tables42.execution_report_table w) None ≡ Ok (without_resend w)
-unfolding message42
-report_again w sound = read_again tables42.execution_report_table w refl refl sound
-
-reject_again : (w : Message) → IsSound judge tables42.cancel_reject_table w
-    → message42 (57 ∷ []) (content tables42.cancel_reject_table w) None ≡ Ok (without_resend w)
-unfolding message42
-reject_again w sound = read_again tables42.cancel_reject_table w refl refl sound
-
 -- WHAT GOES DOWN STANDS FOR IT, of both types.
 pub goes_down : GoDown
+unfolding message42
 goes_down known id m w (Reports50 c) down =
     let rules = rules_of known m 56 c.sound.letter in
     let d = down_by known m w (down_rules (Same 41)) rules down in
     let sound = report_sound m w c d in
     stands (Same 41) report_own 56 reports50.execution_report report_goes m w c d known
-    (report_ordinary m c) down rules refl (Reports42 sound) (report_again w sound)
+    (report_ordinary m c) down rules refl (Reports42 sound)
+    (read_again tables42.execution_report_table w refl refl sound)
 goes_down known id m w (Rejects50 c) down =
     let rules = rules_of known m 57 c.sound.letter in
     let d = down_by known m w (down_rules (Original known)) rules down in
     let sound = reject_sound known id m w c d in
     stands (Original known) (reject_own known) 57 reports50.cancel_reject (reject_goes known id) m w
-    c d known (reject_ordinary m c) down rules refl (Rejects42 sound) (reject_again w sound)
+    c d known (reject_ordinary m c) down rules refl (Rejects42 sound)
+    (read_again tables42.cancel_reject_table w refl refl sound)

@@ -1,36 +1,35 @@
--- What is read of the fields of a report of FIX 5.0 SP2 is a sound message, but for the month of
--- its date, which is told besides.
+-- What is read of the fields of a report of FIX 5.0 SP2 is a sound message that says the month of
+-- its date.
 use Rattle.std.proofs.Common.{◌≡◌, ℕ, List, Some, None, true, false, refl, sym, ap, subst, ◌∙◌}
 use Rattle.std.specs.Prelude.{Ok, unwrap_or}
 use Rattle.std.specs.Option.{option_map}
 use Rattle.std.specs.List.{AllByRecursion}
 use Rattle.field_groups.specs.Field.{AreFields, Field}
 use Rattle.field_groups.specs.Data.{is_data_tag}
-use Rattle.message_tables.specs.Tables.{Verdict, Spells, Outside, Wrong, Optional, Table, Message}
-use Rattle.message_tables.specs.Tables.{Said, ◌>>=◌, flag_of, Tag, is_listed, said_at, text_of}
+use Rattle.message_tables.specs.Tables.{Verdict, Spells, Outside, Wrong, Table, Message}
+use Rattle.message_tables.specs.Tables.{Said, ◌>>=◌, flag_of, is_listed, text_of}
 use Rattle.message_tables.specs.Tables.{value_at}
 use Rattle.message_tables.specs.FirstFault.{first_fault, message_in}
 use Rattle.message_tables.specs.Content.{content}
-use Rattle.value_kinds.specs.ValueKind.{Day, Known, spelling}
-use Rattle.row_values.specs.Kinds.{Kind, Value, date_at, judge, row, verdict_of}
+use Rattle.value_kinds.specs.ValueKind.{Known, spelling}
+use Rattle.row_values.specs.Kinds.{Kind, Value, judge, verdict_of}
 use Rattle.rows_fix50.specs.Header.{completed, month_by}
 use Rattle.reports_fix50.specs.Message.{message50, report_by, report_table, cancel_reject_table}
 use Rattle.reports_fix50.specs.Reports.{execution_report}
-use Rattle.sound_laws.specs.Sound.{IsSaid, IsSound}
+use Rattle.sound_laws.specs.Sound.{IsSound}
 use Rattle.sound_laws.specs.Complete.{HasMonthOfDate, IsComplete}
 use Rattle.sound_laws.proofs.Completed.{completed_again}
 use Rattle.sound_laws.proofs.Lookups.{places_apart}
 use Rattle.sound_laws.proofs.PlainFields.{clear_fields}
-use Rattle.sound_laws.proofs.RowsSaid.{row_said}
-use Rattle.sound_laws.proofs.ContentValues.{groups_said, value_said}
+use Rattle.sound_laws.proofs.ContentValues.{value_said}
 use Rattle.sound_laws.proofs.PlainRows.{is_plain_row, plain_row, spelled, tests_sound}
 use Rattle.sound_laws.proofs.ReadSound.{IsClearField}
 use Rattle.sound_laws.proofs.SpelledAgain.{own_bytes}
 use Rattle.rule_rows.proofs.Said as source
 use Rattle.report_rules.specs.Down.{IsReport50, IsReportType, Reports50, Rejects50, Type8, Type9}
 use Rattle.report_rules.specs.Down.{WritesDown}
-use Rattle.sound_laws.proofs.CompletedSound.{KeepsType, completed_month, completed_sound}
-use Rattle.sound_laws.proofs.ReadComplete.{IsDated, dated_sound, read_of}
+use Rattle.sound_laws.proofs.CompletedSound.{KeepsType}
+use Rattle.sound_laws.proofs.ReadComplete.{IsDated, dated_complete, read_of}
 use Rattle.report_rules.proofs.GoDown.{goes_down}
 
 -- ---- the ExecType of an execution report
@@ -82,75 +81,47 @@ module _ (fields : List Field) (clear : AllByRecursion (IsClearField judge) fiel
       (λ groups row h. (plain_row row h).stable fields (content cancel_reject_table
       (message_in judge cancel_reject_table fields))) clear
 
--- ---- a report that was read
+  -- a cancel reject says no date
+  reject_complete : (x : Message) → report_by cancel_reject_table fields None ≡ Ok x
+      → IsComplete cancel_reject_table x
+  reject_complete x e =
+      let r = read_of cancel_reject_table fields x e in
+      let m = message_in judge cancel_reject_table fields in
+      let sound = reject_sound r.0 in
+      let no_month = source.no_row cancel_reject_table m sound 200 refl in
+      let no_date = source.no_row cancel_reject_table m sound 541 refl in
+      let month : HasMonthOfDate m = no_month ∙ sym (λ i. month_by (no_date i) (no_month i)) in
+      let same : completed m ≡ m =
+      completed_again m month (ap places_apart sound.places) m.resend in
+      subst (IsComplete cancel_reject_table) (sym same ∙ r.1)
+      (record { sound = sound; month = month })
 
--- what was read of a body, before the month of its date was told
-pub record IsRead (table : Table Kind) (m : Message) : Type 0 where
-  pub before : Message
-  pub sound : IsSound judge table before
-  pub is : completed before ≡ m
+-- ---- a report that was read
 
 -- a message that was read of fields by a table, at no fault
 pub record IsReadOf (table : Table Kind) (fields : List Field) (x : Message) : Type 0 where
-  pub read : IsRead table x
+  pub complete : IsComplete table x
   pub good : first_fault judge table fields ≡ None
   pub resend : x.resend ≡ unwrap_or (option_map flag_of (value_at 97 fields)) false
 
-is_read : (table : Table Kind) (fields : List Field) (x : Message)
-    → (first_fault judge table fields ≡ None
-    → IsSound judge table (message_in judge table fields))
+is_read : (table : Table Kind) (fields : List Field) (x : Message) → IsComplete table x
     → report_by table fields None ≡ Ok x → IsReadOf table fields x
-is_read table fields x sound e = let r = read_of table fields x e in record {
-  read = record { before = message_in judge table fields; sound = sound r.0; is = r.1 };
+is_read table fields x complete e = let r = read_of table fields x e in record {
+  complete = complete;
   good = r.0;
   resend = sym (ap (λ (y : Message). y.resend) r.1);
 }
 
 module _ (fields : List Field) (clear : AllByRecursion (IsClearField judge) fields) where
-  -- WHAT IS READ IS SOUND.
+  -- WHAT IS READ IS SOUND, AND COMPLETE.
   pub report_read : (x : Message)
       → report_by report_table fields None ≡ Ok x → IsReadOf report_table fields x
   report_read x e = is_read report_table fields x
-      (dated_sound fields report_table clear true (dated fields clear)) e
+      (dated_complete fields report_table clear true (dated fields clear) x e) e
 
   pub reject_read : (x : Message)
       → report_by cancel_reject_table fields None ≡ Ok x → IsReadOf cancel_reject_table fields x
-  reject_read x e = is_read cancel_reject_table fields x (reject_sound fields clear) e
-
--- ---- what was read is complete
-
-date_read : (m : Message) → (fields : List Field) → value_at 541 fields ≡ said_at m.cells (Tag 541)
-    → IsSaid judge fields (row Optional 541 Day) (said_at m.cells (Tag 541))
-    → date_at 541 fields ≡ said_at m.cells (Tag 541)
-unfolding judge
-date_read m fields at h =
-    ap (λ (v : Said). v >>= (λ text. text_of (verdict_of (spelling Day text)))) at ∙ h.again
-
-pub report_complete : (x : Message) → IsRead report_table x → IsComplete report_table x
-unfolding is_data_tag
-report_complete x read =
-    let m = read.before in
-    let before = content report_table m in
-    let said = row_said before m execution_report 541 (row Optional 541 Day) refl read.sound.items in
-    let at = value_said judge m 541 execution_report refl
-    (groups_said judge before m execution_report read.sound.items) in
-    let date = date_read m before at said in
-    let P : Message → Type 0 = λ y. IsComplete report_table y in
-    subst P read.is (record {
-      sound = completed_sound true report_table m refl date said.clear read.sound refl;
-      month = completed_month true report_table m refl date said.clear read.sound;
-    })
-
-pub reject_complete : (x : Message) → IsRead cancel_reject_table x → IsComplete cancel_reject_table x
-reject_complete x read =
-    let m = read.before in
-    let no_month = source.no_row cancel_reject_table m read.sound 200 refl in
-    let no_date = source.no_row cancel_reject_table m read.sound 541 refl in
-    let month : HasMonthOfDate m = no_month ∙ sym (λ i. month_by (no_date i) (no_month i)) in
-    let same : completed m ≡ m =
-    completed_again m month (ap places_apart read.sound.places) m.resend in
-    let P : Message → Type 0 = λ y. IsComplete cancel_reject_table y in
-    subst P (sym same ∙ read.is) (record { sound = read.sound; month = month })
+  reject_read x e = is_read cancel_reject_table fields x (reject_complete fields clear x e) e
 
 -- WHAT IS READ OF A REPORT is one.
 pub read_is_report : (msg_type : List ℕ) (fields : List Field) (x : Message) → AreFields None fields
@@ -165,11 +136,11 @@ read_is_report msg_type fields x are e type = by type e
     by (Type8 is) e =
         let P : List ℕ → Type 0 = λ t. message50 t fields None ≡ Ok x in
         let k : report_by report_table fields None ≡ Ok x = subst P is e in
-        Reports50 (report_complete x (report_read fields clear x k).read)
+        Reports50 (report_read fields clear x k).complete
     by (Type9 is) e =
         let P : List ℕ → Type 0 = λ t. message50 t fields None ≡ Ok x in
         let k : report_by cancel_reject_table fields None ≡ Ok x = subst P is e in
-        Rejects50 (reject_complete x (reject_read fields clear x k).read)
+        Rejects50 (reject_read fields clear x k).complete
 
 -- THE CONTENT of what goes down of fields stands for what they say.
 pub writes_down : WritesDown

@@ -38,8 +38,7 @@ use Rattle.report_rules.specs.Down.{IsReport50, Reports50, Rejects50}
 use Rattle.report_rules.specs.Rules.{table_at, written, Original, Same, down_message, down_rules}
 use Rattle.report_rules.specs.Rules.{kinds, rules_for}
 use Rattle.report_rules.proofs.GoDown.{down_by, goes_down, reject_sound, report_sound, rules_of}
-use Rattle.report_rules.proofs.ReadDown.{IsReadOf, reject_complete, reject_read, report_complete}
-use Rattle.report_rules.proofs.ReadDown.{report_read}
+use Rattle.report_rules.proofs.ReadDown.{IsReadOf, reject_read, report_read}
 use Rattle.report_rules.proofs.SenseDown.{not_lacking}
 use Rattle.translation.specs.Header.{carried, head_down, type_of, with_content}
 use Rattle.translation.proofs.BehindHeader.{IsHead, front, items_behind, read_behind}
@@ -211,14 +210,14 @@ module _ (fields : List Field) (good : AreFields None fields) (m : Message)
       where
         by : IsEither fields m → Keeps
         by (Eight of) =
-            let c = report_complete m of.read.read in
+            let c = of.read.complete in
             let sound = report_sound m w c (down_by None m w (down_rules (Same 41))
             (rules_of None m 56 c.sound.letter) down) in
             kept report_table (codes "8") 56 reports42.execution_report of (Reports50 c)
             report_header sound (ap table_at sound.letter)
             (few_of judge execution_report_table w refl (lit≤ tt) sound) refl refl (λ x. refl)
         by (Nine of) =
-            let c = reject_complete m of.read.read in
+            let c = of.read.complete in
             let sound = reject_sound None tt m w c (down_by None m w (down_rules (Original None))
             (rules_of None m 57 c.sound.letter) down) in
             kept cancel_reject_table (codes "9") 57 reports42.cancel_reject of (Rejects50 c)

@@ -184,9 +184,10 @@ module _ (g : GroupTags) where
       let rest = lines_count lines begin.1 in
       omega (arith, one, all, rest)
 
-decimal_said : (n : ℕ) → n ≤ 32 → number_in (decimal n) ≡ Some n
+-- a number that is written is read
+pub number_said : (n : ℕ) → n ≤ 1_000_000_000 → number_in (decimal n) ≡ Some n
 unfolding number_in
-decimal_said n few =
+number_said n few =
     let wide : n < 2 ^ 64 = omega (arith, few) in
     let digits : list_all is_ascii_digit (decimal n) ≡ true = digits_decimal numerals n wide in
     let value : digits_value 10 (decimal n) ≡ n = digits_value-decimal numerals n wide in
@@ -226,7 +227,7 @@ module _ {Kind : Type 0} (judge : Judge Kind) (table : Table Kind) (count : ℕ)
         ap (count_by (λ x. x.0 == g.first)) (lines_run judge group all rest said.said out)
         ∙ lines_count g all begin in
         let few = said.few in
-        let told = decimal_said (length all) few in (
+        let told = number_said (length all) (omega (arith, few)) in (
           rw (same_number count, told, begun, same_number (length all)) refl,
           lines_in_place g all begin (each_part (λ f. IsMember g f.0) line_fields all
               (lines_each judge (λ f. IsMember g f.0) (row ∷ rows) all

@@ -93,7 +93,7 @@ module _ (fields : List Field) (t : Table Kind) where
       }
 
       -- WHAT IS READ IS SOUND,
-      pub dated_sound : first_fault judge t fields ≡ None → IsSound judge t m
+      dated_sound : first_fault judge t fields ≡ None → IsSound judge t m
       dated_sound = tests_sound t fields (is_ours_row timed) tests.1.1 stable_row clear
 
       complete : first_fault judge t fields ≡ None → IsComplete t (completed m)

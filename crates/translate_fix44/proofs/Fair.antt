@@ -27,7 +27,6 @@ use Rattle.sound_laws.proofs.TableFits as fits
 use Rattle.rule_rows.specs.ByRules.{by_rules, lack_by}
 use Rattle.request_rules.proofs.ByType.{asked50, items50, letter_of}
 use Rattle.report_rules.proofs.SenseDown.{not_lacking}
-use Rattle.report_rules.proofs.ReadDown.{reject_complete, report_complete}
 use Rattle.translation.specs.Header.{type_of, with_content, carried, head_down}
 use Rattle.translation.specs.declared.error.TranslateError.{TranslateError}
 use Rattle.translation.specs.declared.error.TranslateError.TheVariants as errors
@@ -147,10 +146,10 @@ module _ (fields : List Field) (are : AreFields None fields) (m w : Message)
   by_either : IsEither fields m → Keeps down fields m w
   by_either (Eight of) =
       keeps report_table 56 reports44.execution_report of (report_header fields are m read)
-      (report_goes_down None m w (report_complete m of.read.read) goes) refl refl
+      (report_goes_down None m w of.read.complete goes) refl refl
   by_either (Nine of) =
       keeps cancel_reject_table 57 reports44.cancel_reject of (reject_header fields are m read)
-      (reject_goes_down None tt m w (reject_complete m of.read.read) goes) refl refl
+      (reject_goes_down None tt m w of.read.complete goes) refl refl
 
 -- A REPORT GOES DOWN FAIRLY.
 pub down_fair : IsFair down

@@ -84,17 +84,11 @@ is_asked msg_type fields m =
 module _ (fields : List Field) (clear : AllByRecursion (IsClearField judge) fields) where
   dated : (kind : RequestKind) → IsDated fields (asked44 kind) false
   unfolding is_data_tag
-  dated Cancel = record {
+  dated New = record {
     fits = refl;
     date = refl;
     types = λ untrue. absurd cc;
-    kept = untyped fields (asked44 Cancel) refl;
-  }
-  dated Status = record {
-    fits = refl;
-    date = refl;
-    types = λ untrue. absurd cc;
-    kept = untyped fields (asked44 Status) refl;
+    kept = untyped fields (asked44 New) refl;
   }
   dated kind = record {
     fits = refl;
