@@ -49,6 +49,7 @@ use Rattle.request_rules.specs.Rules.{party_lines}
 use Rattle.request_rules.specs.Canonical.{IsCanonical, IsRequest}
 use Rattle.request_rules.specs.Canonical as canonical
 use Rattle.request_rules.proofs.ByType.{by_tables, letter_of, asked}
+use Rattle.request_rules.proofs.PartiesUp.{three_parties}
 use Rattle.report_rules.specs.Down.{IsId, Rejects50, Reports50}
 use Rattle.report_rules.specs.Rules.{at}
 use Rattle.report_rules.proofs.SenseDown.{books_by, fills_nothing, not_lacking}
@@ -118,13 +119,6 @@ report44 = table44 56 reports44.execution_report
 
 abbrev pub reject44 : Table Kind
 reject44 = table44 57 reports44.cancel_reject
-
-three_parties : (client broker firm : Said) → length (party_lines client broker firm) ≤ 3
-three_parties None None None = lit≤ tt
-three_parties None (Some broker) None = lit≤ tt
-three_parties (Some client) None None = lit≤ tt
-three_parties (Some client) (Some broker) None = lit≤ tt
-three_parties client broker firm = lit≤ tt
 
 -- at most three parties are written, and 32 lines of any other group
 abbrev limit : ℕ → ℕ
