@@ -21,8 +21,8 @@ use Rattle.typed_fields.proofs.SpellingLemmas.{judged_ok}
 use Rattle.field_groups.specs.Field.{Field, is_soh}
 use Rattle.field_groups.specs.HeadValues.{number_in, is_number}
 use Rattle.message_tables.specs.Tables.{Spells, Required, Optional, Said, Cell, Place, Tag, ◌>>=◌}
-use Rattle.message_tables.specs.Tables.{first_of, is_one_of, is_place, or_else, party_in, said_at, text_in}
-use Rattle.message_tables.specs.Tables.{Message, Table, Role, lines_of}
+use Rattle.message_tables.specs.Tables.{first_of, is_one_of, is_place, or_else, party_in, said_at}
+use Rattle.message_tables.specs.Tables.{Message, Table, Role, lines_of, text_in}
 use Rattle.message_tables.specs.Content.{line_fields}
 use Rattle.value_kinds.specs.ValueKind.{Id, Text, Reason, if_in_range, spelling, spelt}
 use Rattle.value_kinds.specs.ValueKind.{ValueKind}

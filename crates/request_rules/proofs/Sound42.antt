@@ -78,8 +78,8 @@ module _ (table : Table Kind) (fields : List Field) where
         let first = (day_in (month_at month fields) read text e).0 in
         ap (λ mo. in_month mo (verdict_of (spelling DayOfMonth text)))
         (at_equal (λ t. month_at t after ≡ month_at t fields) month 200 h same_month)
-        ∙ ap (in_month (month_at month fields)) (value_again DayOfMonth bytes text first ∙ sym first)
-        ∙ e
+        ∙ ap (in_month (month_at month fields))
+        (value_again DayOfMonth bytes text first ∙ sym first) ∙ e
     ours_again other h bytes text e = absurd cc
 
     ours_clear : (kind : Kind) → ours_kind kind ≡ true → (bytes text : List ℕ)

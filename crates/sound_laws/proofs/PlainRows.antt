@@ -133,7 +133,8 @@ plain group h =
 
 module _ (table : Table Kind) (fields : List Field) where
   -- the groups of items, and their tags
-  plain_items : (items : List (Item Kind)) → list_all is_plain_group (flat_map groups_of items) ≡ true
+  plain_items : (items : List (Item Kind))
+      → list_all is_plain_group (flat_map groups_of items) ≡ true
       → AllByRecursion (IsPlainItem judge table fields) items
       × AllByRecursion IsPlain (flat_map group_tags_of items)
   plain_items [] h = (tt, tt)

@@ -349,8 +349,8 @@ unfolding report_message44 is_data_tag times
 reject_goes_down known id x w = goes_down cancel_reject_table reject44 known x w (λ c lack.
     let m = with_letter x 57 in
     let rules = down_rules (By (Else 41 known)) in
-    let g = way_gone false rules (reject_way known) 57 reports50.cancel_reject (reject_goes known id) m
-    c lack in
+    let g = way_gone false rules (reject_way known) 57 reports50.cancel_reject
+    (reject_goes known id) m c lack in
     record {
       gone = g;
       means = reject_kept known m
