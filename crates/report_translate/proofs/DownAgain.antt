@@ -46,7 +46,7 @@ use Rattle.translation.proofs.CarriedHeader.{IsOwnHead, HasHeader, head_is_own, 
 use Rattle.translation.proofs.CarriedHeader.{own_said}
 use Rattle.translation.proofs.CarriedDown.{head_clear, own_down, resend_down, type_down}
 use Rattle.translation.proofs.SplitAgain.{clear_again}
-use Rattle.translation.proofs.Writable.{IsType}
+use Rattle.translation.specs.Going.{IsType}
 use Rattle.report_translate.specs.Reading.{report_message}
 use Rattle.report_translate.proofs.OfType.{eight, nine, no_report, type_is}
 

@@ -22,7 +22,8 @@ use Rattle.reports_fix50.specs.Message.{report_by, report_table, cancel_reject_t
 use Rattle.reports_fix50.specs.Message.{message50 as any50}
 use Rattle.reports_fix50.specs.Message.{session_reject_table as session_reject_table50}
 use Rattle.reports_fix50.specs.Message.{business_reject_table as business_reject_table50}
-use Rattle.translation.proofs.Writable.{IsType, is_byte}
+use Rattle.translation.specs.Going.{IsType}
+use Rattle.translation.proofs.Writable.{is_byte}
 use Rattle.report_translate.specs.Reading.{is_refusal, message_of, report_message, refusal_message}
 use Rattle.report_translate.specs.Writing.{IsReadAs}
 

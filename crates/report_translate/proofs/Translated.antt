@@ -6,7 +6,8 @@ use Rattle.field_groups.specs.Field.{Field}
 use Rattle.field_groups.specs.Fields.{SplitsInto}
 use Rattle.translation.specs.declared.error.TranslateError.{TranslateError}
 use Rattle.translation.specs.declared.error.TranslateError.TheVariants as errors
-use Rattle.translation.proofs.Going.{IsFair, is_read}
+use Rattle.translation.specs.Going.{IsFair}
+use Rattle.translation.proofs.Going.{is_read}
 use Rattle.report_translate.specs.Translation.{IsKnown, IsRefusedByCheck, down}
 use Rattle.report_translate.specs.Writing.{IsCheckedOf, RefusesCheck}
 use Rattle.report_translate.proofs.DownAgain.{down_type, keeps, reads_again, splits_again}

@@ -3,15 +3,16 @@
 ghost use Rattle.std.specs.Prelude.{IfErr, None, OnOk};
 ghost use Rattle.reports_fix50.specs.Message.{report_table_of};
 ghost use Rattle.report_translate.specs.Translation.{down};
-ghost use Rattle.translation.specs.Going.{Appends, IsOtherOf, Refuses, StayBack};
+ghost use Rattle.translation.specs.Going.{Appends, StayBack};
 ghost use Rattle.translation.specs.Header.{type_of};
 ghost use Rattle.translation.specs.Judged.{AreGoodBy};
 
 use crate::checking::good;
 use field_groups::{Fields, Split};
+use frame_grammar::Kind;
 use reports_fix50::ReportTables;
-use std::alloc::Global;
-use translation::{HeadDown, TranslateError, check_lengths, lacking, msg_type, write_head};
+use std::alloc::{AllocError, Global};
+use translation::{HeadDown, TranslateError, Translating, lacking, msg_type, write_head};
 
 /// Appends the content of the report that fields at no fault say.
 #[tactic(auto, using(crate::proofs::Appended::of_put))]
@@ -26,39 +27,29 @@ fn put_good(alloc: Global, fields: &Fields<'_>, out: &mut Vec<u8>) -> Result<(),
     }
 }
 
-/// Appends the content of the report that stands for the fields of a body.
-#[tactic(auto, using(crate::proofs::Appended::of_good_fields))]
-fn put_down(
-    alloc: Global,
-    tables: &ReportTables,
-    split: &Split<'_>,
-    out: &mut Vec<u8>,
-) -> Result<(), TranslateError>
-    ensures ok { OnOk result
-        (Appends down split.now.fields split.now.fault out.old.items out.new.items) }
-    ensures refused { IfErr result (StayBack down split.now.fields split.now.fault) }
-{
-    put_good(alloc, good(tables, split)?, out)
+/// What translates reports down.
+#[derive(Drop)]
+pub(crate) struct Down {
+    pub(crate) alloc: Global,
+    pub(crate) tables: ReportTables,
 }
 
-/// Writes to `body`, in place of what it has, the body that stands for the fields of a body.
-#[tactic(auto, using(translation::proofs::Going::grows))]
-pub(crate) fn write_down(
-    alloc: Global,
-    tables: &ReportTables,
-    split: &Split<'_>,
-    body: &mut Vec<u8>,
-) -> Result<(), TranslateError>
-    ensures ok { OnOk result (IsOtherOf down split.now.fields split.now.fault body.new.items) }
-    ensures refused { IfErr result (Refuses down split.now.fields split.now.fault) }
-{
-    body.clear();
-    let header = HeadDown {
-        fields: &split.fields,
-    };
-    write_head(header.msg_type(), &header, body)?;
-    let head = body.len();
-    put_down(alloc, tables, split, body)?;
-    let whole = body.len();
-    check_lengths(whole - head, whole)
+impl Translating for Down {
+    ghost course = { λ _. down };
+
+    fn kind(&self) -> Kind {
+        Kind::Fix42
+    }
+
+    fn put_head(&self, fields: &Fields<'_>, out: &mut Vec<u8>) -> Result<(), AllocError> {
+        let head = HeadDown { fields };
+        write_head(head.msg_type(), &head, out)
+    }
+
+    #[tactic(auto, using(crate::proofs::Appended::of_good_fields))]
+    fn put(&self, split: &Split<'_>, out: &mut Vec<u8>) -> Result<(), TranslateError> {
+        put_good(self.alloc, good(&self.tables, split)?, out)
+    }
+
+    fn laws(&self) {}
 }

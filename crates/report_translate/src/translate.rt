@@ -6,18 +6,16 @@ ghost use Rattle.report_translate.specs.Translation.{IsKnown, IsTranslation, IsR
 ghost use Rattle.report_translate.specs.Translation.{IsRefusedByCheck};
 
 use crate::checking::check_fields;
-use crate::report::write_down;
+use crate::report::Down;
 use field_groups::{Split, split_into};
-use frame_grammar::{FrameError, Kind, write_frame};
 use reports_fix50::ReportTables;
 use std::alloc::Global;
-use translation::TranslateError;
+use translation::{TranslateError, translate};
 
 /// Translates bodies of reports. It keeps the memory for one body from each call to the next.
 #[derive(Drop)]
 pub struct ReportTranslator {
-    alloc: Global,
-    tables: ReportTables,
+    way: Down,
     down: Vec<u8>,
 }
 
@@ -25,8 +23,10 @@ impl ReportTranslator {
     /// A translator, which takes its memory by `alloc`, and none yet.
     pub fn new(alloc: Global) -> ReportTranslator {
         ReportTranslator {
-            alloc,
-            tables: ReportTables::new(),
+            way: Down {
+                alloc,
+                tables: ReportTables::new(),
+            },
             down: Vec::new(alloc),
         }
     }
@@ -51,14 +51,8 @@ impl ReportTranslator {
         ensures refused { IfErr result (IsRefused body.now) }
         ensures err { OnErr result (out.new.items ≡ out.old.items) }
     {
-        let mut split = Split::new(self.alloc);
-        split_into(body, &mut split)?;
-        write_down(self.alloc, &self.tables, &split, &mut self.down)?;
-        match write_frame(Kind::Fix42, &self.down, out) {
-            Ok(()) => Ok(()),
-            Err(FrameError::NoMemory) => Err(TranslateError::NoMemory),
-            Err(FrameError::TooLong) => unreachable!(),
-        }
+        let alloc = self.way.alloc;
+        translate(&self.way, alloc, body, &mut self.down, out)
     }
 
     /// Whether a body of FIX 5.0 SP2 has a translation, of whatever length. The order that a cancel
@@ -71,8 +65,8 @@ impl ReportTranslator {
         ensures ok { OnOk result ((fields : List Field) × IsKnown body.now fields) }
         ensures refused { IfErr result (IsRefusedByCheck body.now) }
     {
-        let mut split = Split::new(self.alloc);
+        let mut split = Split::new(self.way.alloc);
         split_into(body, &mut split)?;
-        check_fields(&self.tables, &split)
+        check_fields(&self.way.tables, &split)
     }
 }

@@ -16,7 +16,7 @@ use Rattle.translation.specs.Header.{type_of, with_content}
 use Rattle.request_translate.specs.Translation.{IsRequest, News, Cancels, Replaces, Statuses}
 use Rattle.sound_laws.proofs.PlainFields.{has_good_tags, most_of, times, AreFew, few_of}
 use Rattle.translation.proofs.SplitAgain.{fields_again}
-use Rattle.translation.proofs.Writable.{IsType}
+use Rattle.translation.specs.Going.{IsType}
 
 -- ---- what a request asks for
 

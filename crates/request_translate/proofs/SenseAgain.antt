@@ -31,7 +31,7 @@ use Rattle.translation.specs.Header.{carried}
 use Rattle.translation.proofs.BehindHeader.{IsHead, front, items_behind, read_behind, whole}
 use Rattle.translation.proofs.CarriedHeader.{IsOwnHead, HasHeader, head_is_own, head_value}
 use Rattle.translation.proofs.CarriedHeader.{own_said}
-use Rattle.translation.proofs.Writable.{IsType}
+use Rattle.translation.specs.Going.{IsType}
 use Rattle.request_rules.specs.Canonical.{IsCanonical}
 use Rattle.request_translate.specs.Translation.{IsRequest}
 use Rattle.request_translate.proofs.AgainFields.{IsOfKind, of_kind}

@@ -11,9 +11,9 @@ use Rattle.rule_rows.specs.ByRules.{or_lack}
 use Rattle.translation.specs.declared.error.TranslateError.{TranslateError}
 use Rattle.translation.specs.declared.error.TranslateError.TheVariants as errors
 use Rattle.translation.specs.Bodies.{Goes}
-use Rattle.translation.specs.Going.{AreGone, StayBack}
+use Rattle.translation.specs.Going.{AreGone, IsFair, Keeps, StayBack}
 use Rattle.translation.specs.Header.{type_of}
-use Rattle.translation.proofs.Going.{IsFair, Keeps, goes, refused}
+use Rattle.translation.proofs.Going.{goes, refused}
 use Rattle.request_rules.specs.Lack.{lack42}
 use Rattle.request_rules.specs.Rules.{up_content, up_message}
 use Rattle.request_rules.proofs.GoUp.{read_go_up}

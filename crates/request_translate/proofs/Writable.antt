@@ -5,7 +5,7 @@ use Rattle.message_tables.specs.Tables.{Message}
 use Rattle.order_meaning.specs.Request.{RequestKind, New, Cancel, Replace, Status}
 use Rattle.dict_fix42.specs.Message.{message42}
 use Rattle.first_faults.specs.Faults.{message_by}
-use Rattle.translation.proofs.Writable.{IsType, One}
+use Rattle.translation.specs.Going.{IsType, One}
 use Rattle.request_rules.proofs.ByType.{by_type, letter_of}
 
 pub is_type : (kind : RequestKind) → IsType (letter_of kind ∷ [])

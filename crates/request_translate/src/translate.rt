@@ -1,61 +1,53 @@
 //! Translating the body of a request of FIX 4.2 to FIX 5.0 SP2.
 
-ghost use Rattle.std.specs.Prelude.{◌≡◌, ◌++◌, ℕ, List, None, IfErr, OnErr, OnOk};
+ghost use Rattle.std.specs.Prelude.{◌≡◌, ◌++◌, ℕ, List, IfErr, OnErr, OnOk};
 ghost use Rattle.field_groups.specs.Field.{Field};
 ghost use Rattle.request_translate.specs.Translation.{IsRefused, IsRefusedByCheck};
 ghost use Rattle.request_translate.specs.Translation.{IsTranslation, up as way};
 ghost use Rattle.translation.specs.Bodies.{Goes};
-ghost use Rattle.translation.specs.Going.{Appends, IsOtherOf, Refuses, StayBack};
 
 use crate::checking::{check_fields, good};
 use dict_fix42::RequestTables;
-use field_groups::{Split, split_into};
-use frame_grammar::{FrameError, Kind, write_frame};
-use request_rules::put_up as put_content;
-use std::alloc::Global;
-use translation::{TranslateError, check_lengths, lacking, msg_type, write_head};
+use field_groups::{Fields, Split, split_into};
+use frame_grammar::Kind;
+use request_rules::put_up;
+use std::alloc::{AllocError, Global};
+use translation::{TranslateError, Translating, lacking, msg_type, translate, write_head};
 
-/// Appends the content of the request that stands for the fields of a body.
-#[tactic(auto, using(crate::proofs::GoodFields::put))]
-fn put_up(
-    tables: &RequestTables,
-    split: &Split<'_>,
-    out: &mut Vec<u8>,
-) -> Result<(), TranslateError>
-    ensures ok { OnOk result
-        (Appends way split.now.fields split.now.fault out.old.items out.new.items) }
-    ensures refused { IfErr result (StayBack way split.now.fields split.now.fault) }
-{
-    let good = good(tables, split)?;
-    match put_content(&good, out) {
-        Ok(()) => Ok(()),
-        Err(lack) => Err(lacking(lack)),
-    }
+/// What translates requests up.
+#[derive(Drop)]
+struct Up {
+    tables: RequestTables,
 }
 
-/// Writes to `up`, in place of what it has, the body that stands for the fields of a body.
-#[tactic(auto, using(translation::proofs::Going::grows))]
-fn write_up(
-    tables: &RequestTables,
-    split: &Split<'_>,
-    up: &mut Vec<u8>,
-) -> Result<(), TranslateError>
-    ensures ok { OnOk result (IsOtherOf way split.now.fields split.now.fault up.new.items) }
-    ensures refused { IfErr result (Refuses way split.now.fields split.now.fault) }
-{
-    up.clear();
-    write_head(msg_type(&split.fields), &split.fields, up)?;
-    let head = up.len();
-    put_up(tables, split, up)?;
-    let body = up.len();
-    check_lengths(body - head, body)
+impl Translating for Up {
+    ghost course = { λ _. way };
+
+    fn kind(&self) -> Kind {
+        Kind::Fixt11
+    }
+
+    fn put_head(&self, fields: &Fields<'_>, out: &mut Vec<u8>) -> Result<(), AllocError> {
+        write_head(msg_type(fields), fields, out)
+    }
+
+    #[tactic(auto, using(crate::proofs::GoodFields::put))]
+    fn put(&self, split: &Split<'_>, out: &mut Vec<u8>) -> Result<(), TranslateError> {
+        let good = good(&self.tables, split)?;
+        match put_up(&good, out) {
+            Ok(()) => Ok(()),
+            Err(lack) => Err(lacking(lack)),
+        }
+    }
+
+    fn laws(&self) {}
 }
 
 /// Translates bodies. It keeps the memory for one body from each call to the next.
 #[derive(Drop)]
 pub struct Translator {
     alloc: Global,
-    tables: RequestTables,
+    way: Up,
     up: Vec<u8>,
 }
 
@@ -64,7 +56,9 @@ impl Translator {
     pub fn new(alloc: Global) -> Translator {
         Translator {
             alloc,
-            tables: RequestTables::new(),
+            way: Up {
+                tables: RequestTables::new(),
+            },
             up: Vec::new(alloc),
         }
     }
@@ -89,14 +83,7 @@ impl Translator {
         ensures refused { IfErr result (IsRefused body.now) }
         ensures err { OnErr result (out.new.items ≡ out.old.items) }
     {
-        let mut split = Split::new(self.alloc);
-        split_into(body, &mut split)?;
-        write_up(&self.tables, &split, &mut self.up)?;
-        match write_frame(Kind::Fixt11, &self.up, out) {
-            Ok(()) => Ok(()),
-            Err(FrameError::NoMemory) => Err(TranslateError::NoMemory),
-            Err(FrameError::TooLong) => unreachable!(),
-        }
+        translate(&self.way, self.alloc, body, &mut self.up, out)
     }
 
     /// Whether a body of FIX 4.2 has a translation, of whatever length.
@@ -110,6 +97,6 @@ impl Translator {
     {
         let mut split = Split::new(self.alloc);
         split_into(body, &mut split)?;
-        check_fields(&self.tables, &split)
+        check_fields(&self.way.tables, &split)
     }
 }

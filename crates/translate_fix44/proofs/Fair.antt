@@ -31,11 +31,10 @@ use Rattle.translation.specs.Header.{type_of, with_content, carried, head_down}
 use Rattle.translation.specs.declared.error.TranslateError.{TranslateError}
 use Rattle.translation.specs.declared.error.TranslateError.TheVariants as errors
 use Rattle.translation.specs.Bodies.{Goes}
-use Rattle.translation.specs.Going.{AreGone, StayBack}
+use Rattle.translation.specs.Going.{AreGone, IsFair, IsType, Keeps, StayBack}
 use Rattle.translation.proofs.BehindHeader.{front, items_behind, whole}
 use Rattle.translation.proofs.CarriedHeader.{head_is_own, head_value, HasHeader}
-use Rattle.translation.proofs.Going.{IsFair, Keeps, goes, refused}
-use Rattle.translation.proofs.Writable.{IsType}
+use Rattle.translation.proofs.Going.{goes, refused}
 use Rattle.translation.proofs.CarriedDown.{head_clear, type_down}
 use Rattle.translation.proofs.SplitAgain.{clear_again}
 use Rattle.request_translate.proofs.AgainFields.{of_kind, split_again}

@@ -1,13 +1,12 @@
 //! Translating bodies from FIX 4.4 and to it.
 
 ghost use Rattle.std.specs.Prelude.{◌≡◌, ◌++◌, ℕ, List, IfErr, None, OnErr, OnOk};
-ghost use Rattle.field_groups.specs.Field.{Field, field_bytes};
+ghost use Rattle.field_groups.specs.Field.{Field};
 ghost use Rattle.first_faults.specs.Gives.{IsCleanIf};
 ghost use Rattle.dict_fix44.specs.Message.{refusal44, refusal_table_of};
 ghost use Rattle.translation.specs.Bodies.{Goes, IsRefused, IsTranslation};
-ghost use Rattle.translation.specs.Going.{Appends, AreGone, IsOtherOf, Refuses, StayBack};
-ghost use Rattle.translation.specs.Header.{carried_field, carried_tags, type_of};
-ghost use Rattle.translation.specs.Writing.{put as put_tags};
+ghost use Rattle.translation.specs.Going.{Appends, AreGone, StayBack};
+ghost use Rattle.translation.specs.Header.{type_of};
 ghost use Rattle.report_translate.specs.Refusals.{IsFaultyRefusal, IsGoodRefusal};
 ghost use Rattle.translate_fix44.specs.Translation.{IsRefusedByCheck, direction, down, up};
 
@@ -16,11 +15,13 @@ use crate::putting::{lack_up, put_down, put_up};
 use dict_fix44::{RequestTables, refusal_table};
 use field_groups::{Fields, Split, split, split_into};
 use first_faults::good_fields;
-use frame_grammar::{FrameError, Kind, write_frame};
+use frame_grammar::Kind;
 use order_meaning::Fault;
 use reports_fix50::ReportTables;
 use std::alloc::{AllocError, Global};
-use translation::{HeadDown, TranslateError, check_lengths, faulty, lacking, msg_type, write_head};
+use translation::{
+    HeadDown, TranslateError, Translating, faulty, lacking, msg_type, translate, write_head,
+};
 
 /// The way of a message between a client of FIX 4.4 and its venue.
 #[derive(Clone, Copy, Debug)]
@@ -30,18 +31,6 @@ pub enum Way {
     Up,
     /// A report goes down: an Execution Report(8) or an Order Cancel Reject(9).
     Down,
-}
-
-impl Way {
-    /// The kind of the frames that are written.
-    fn kind(self) -> Kind
-        ensures { result ≡ (direction self).kind }
-    {
-        match self {
-            Way::Up => Kind::Fixt11,
-            Way::Down => Kind::Fix44,
-        }
-    }
 }
 
 /// Appends the content of FIX 5.0 SP2 of the request that stands for the fields of a body.
@@ -112,59 +101,42 @@ struct Tables {
     reports: ReportTables,
 }
 
-/// Appends the content that stands for the fields of a body.
-fn put(
+/// What translates in one way.
+#[derive(Drop)]
+struct Going<'t> {
     way: Way,
     alloc: Global,
-    tables: &Tables,
-    split: &Split<'_>,
-    out: &mut Vec<u8>,
-) -> Result<(), TranslateError>
-    ensures ok { OnOk result (Appends (direction way) split.now.fields split.now.fault
-        out.old.items out.new.items) }
-    ensures refused { IfErr result
-        (StayBack (direction way) split.now.fields split.now.fault) }
-{
-    match way {
-        Way::Up => put_request(alloc, &tables.requests, split, out),
-        Way::Down => put_report(alloc, &tables.reports, split, out),
-    }
+    tables: &'t Tables,
 }
 
-/// Appends MsgType(35) and the header that goes with it.
-fn put_head(way: Way, fields: &Fields<'_>, out: &mut Vec<u8>) -> Result<(), AllocError>
-    ensures { OnOk result (out.new.items
-        ≡ put_tags (carried_field ((direction way).head fields.now)) (out.old.items
-        ++ field_bytes (35, type_of ((direction way).head fields.now))) carried_tags) }
-{
-    match way {
-        Way::Up => write_head(msg_type(fields), fields, out),
-        Way::Down => {
-            let head = HeadDown { fields };
-            write_head(head.msg_type(), &head, out)
+impl<'t> Translating for Going<'t> {
+    ghost course = { λ going. direction going.way };
+
+    fn kind(&self) -> Kind {
+        match self.way {
+            Way::Up => Kind::Fixt11,
+            Way::Down => Kind::Fix44,
         }
     }
-}
 
-/// Writes to `other`, in place of what it has, the body that stands for the fields of a body.
-#[tactic(auto, using(translation::proofs::Going::grows))]
-fn write(
-    way: Way,
-    alloc: Global,
-    tables: &Tables,
-    split: &Split<'_>,
-    other: &mut Vec<u8>,
-) -> Result<(), TranslateError>
-    ensures ok { OnOk result
-        (IsOtherOf (direction way) split.now.fields split.now.fault other.new.items) }
-    ensures refused { IfErr result (Refuses (direction way) split.now.fields split.now.fault) }
-{
-    other.clear();
-    put_head(way, &split.fields, other)?;
-    let head = other.len();
-    put(way, alloc, tables, split, other)?;
-    let whole = other.len();
-    check_lengths(whole - head, whole)
+    fn put_head(&self, fields: &Fields<'_>, out: &mut Vec<u8>) -> Result<(), AllocError> {
+        match self.way {
+            Way::Up => write_head(msg_type(fields), fields, out),
+            Way::Down => {
+                let head = HeadDown { fields };
+                write_head(head.msg_type(), &head, out)
+            }
+        }
+    }
+
+    fn put(&self, split: &Split<'_>, out: &mut Vec<u8>) -> Result<(), TranslateError> {
+        match self.way {
+            Way::Up => put_request(self.alloc, &self.tables.requests, split, out),
+            Way::Down => put_report(self.alloc, &self.tables.reports, split, out),
+        }
+    }
+
+    fn laws(&self) {}
 }
 
 /// The fields of a refusal, where they are whole and at no fault beside the table of their type.
@@ -242,14 +214,12 @@ impl Translator44 {
         ensures refused { IfErr result (IsRefused (direction way) body.now) }
         ensures err { OnErr result (out.new.items ≡ out.old.items) }
     {
-        let mut split = Split::new(self.alloc);
-        split_into(body, &mut split)?;
-        write(way, self.alloc, &self.tables, &split, &mut self.other)?;
-        match write_frame(way.kind(), &self.other, out) {
-            Ok(()) => Ok(()),
-            Err(FrameError::NoMemory) => Err(TranslateError::NoMemory),
-            Err(FrameError::TooLong) => unreachable!(),
-        }
+        let going = Going {
+            way,
+            alloc: self.alloc,
+            tables: &self.tables,
+        };
+        translate(&going, self.alloc, body, &mut self.other, out)
     }
 
     /// Whether a body of a request of FIX 4.4 has a translation, of whatever length.

@@ -18,7 +18,7 @@ use Rattle.sound_laws.proofs.ReadSound.{IsClearField}
 use Rattle.sound_laws.proofs.SpelledAgain.{clear_front}
 use Rattle.translation.specs.Header.{carried_down, head_down, type_of}
 use Rattle.translation.proofs.CarriedHeader.{IsOwn, IsOwnHead}
-use Rattle.translation.proofs.Writable.{IsType, One as OneByte}
+use Rattle.translation.specs.Going.{IsType, One as OneByte}
 
 -- a value is carried as it stands, or cut
 by_cut : (P : List ℕ → Type 0) (tag : ℕ) (value : List ℕ) → P (cut_text value) → P value

@@ -18,7 +18,7 @@ use Rattle.sound_laws.proofs.ReadSound.{IsClearField}
 use Rattle.sound_laws.proofs.RowsSaid.{optional_said}
 use Rattle.sound_laws.proofs.SpelledAgain.{is_own, own_bytes}
 use Rattle.translation.specs.Header.{carried_tags}
-use Rattle.translation.proofs.Writable.{IsType, One as OneByte}
+use Rattle.translation.specs.Going.{IsType, One as OneByte}
 
 -- what a translation says at the row of a tag of its header
 abbrev pub head_value : List ℕ → List Field → ℕ → Said

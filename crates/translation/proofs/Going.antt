@@ -4,29 +4,19 @@ use Rattle.std.proofs.Common.{◌∙◌, subst, length, length-append, arith}
 use Rattle.std.specs.Prelude.{IfErr, OnOk}
 use Rattle.frame_grammar.specs.Frame.{IsFrame, IsWritable, frame_of}
 use Rattle.field_groups.specs.declared.fault.SplitFault.{SplitFault}
-use Rattle.field_groups.specs.Field.{AreFields, Field, body_of}
+use Rattle.field_groups.specs.Field.{Field, body_of}
 use Rattle.field_groups.specs.Fields.{SplitsInto}
 use Rattle.message_tables.specs.Tables.{Message}
 use Rattle.translation.specs.declared.error.TranslateError.{TranslateError}
 use Rattle.translation.specs.declared.error.TranslateError.TheVariants as errors
 use Rattle.translation.specs.Bodies.{Direction, Goes, IsRead, IsRefused, IsTranslation, others}
-use Rattle.translation.specs.Going.{Appends, AreGone, AreRead, IsOtherOf, Refuses, StayBack}
+use Rattle.translation.specs.Going.{Appends, AreGone, AreRead, IsFair, IsOtherOf, Keeps}
+use Rattle.translation.specs.Going.{Refuses, StayBack}
 use Rattle.translation.specs.Header.{carried, type_of}
 use Rattle.translation.specs.Writing.{IsUnwritten, IsWritten}
-use Rattle.translation.proofs.Writable.{IsType, writable}
+use Rattle.translation.proofs.Writable.{writable}
 
 module _ (d : Direction) where
-  -- WHAT A DIRECTION OWES of fields whose message becomes another: what they have in common, that
-  -- what is written is split again, and that its type has one byte
-  pub record Keeps (fields : List Field) (m w : Message) : Type 0 where
-    pub kept : d.Kept fields m w
-    pub again : SplitsInto (body_of (others d fields m w)) (others d fields m w) None
-    pub typed : IsType (type_of (d.head fields))
-
-  abbrev pub IsFair : Type 0
-  IsFair = (fields : List Field) → AreFields None fields → (m w : Message)
-      → d.source (type_of fields) fields None ≡ Ok m → d.goes m ≡ Ok w → Keeps fields m w
-
   -- ---- fields that were judged, in place of those of a body
 
   module _ (fields good : List Field) (stopped : Option SplitFault) (same : good ≡ fields)
@@ -79,8 +69,8 @@ module _ (d : Direction) where
           let P : Option SplitFault → Type 0 = λ s. SplitsInto body fields s in
           record { message = m; split = subst P h.whole split; read = h.read }
 
-      module _ (fair : IsFair) where
-        keeps : (gone : AreGone d fields stopped) → Keeps fields gone.m gone.w
+      module _ (fair : IsFair d) where
+        keeps : (gone : AreGone d fields stopped) → Keeps d fields gone.m gone.w
         keeps gone = fair fields split.good gone.m gone.w gone.read.read gone.goes
 
         pub goes : AreGone d fields stopped → Goes d body fields

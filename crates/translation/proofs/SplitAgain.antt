@@ -17,7 +17,7 @@ use Rattle.sound_laws.proofs.PlainFields.{is_good_tag, Plains, AreFew, plain_fie
 use Rattle.sound_laws.proofs.PlainFields.{all_of, clear_fields}
 use Rattle.sound_laws.proofs.ReadSound.{IsClearField}
 use Rattle.translation.specs.Header.{type_of, carried, carried_field, carried_tags, with_content}
-use Rattle.translation.proofs.Writable.{IsType, One as OneByte}
+use Rattle.translation.specs.Going.{IsType, One as OneByte}
 
 carried_plain : (tag : ℕ) (fields : List Field) → is_good_tag tag ≡ true
     → AllByRecursion (IsClearField row_kinds.judge) fields → Plains (carried_field fields tag)

@@ -7,6 +7,7 @@ use Rattle.std.proofs.lemmas.List.{length-append}
 use Rattle.std.proofs.lemmas.Slice.Eq.{bytes_eq-Decides}
 use Rattle.frame_grammar.specs.Frame.{IsWritable}
 use Rattle.field_groups.specs.Field.{Field, body_of, field_bytes}
+use Rattle.translation.specs.Going.{IsType, One}
 
 last_append : (xs ys : List ℕ)
     → 1 ≤ length ys → get_or (xs ++ ys) (length (xs ++ ys) - 1) 0 ≡ get_or ys (length ys - 1) 0
@@ -42,9 +43,6 @@ one_byte byte fields other = record {
   ends = last_byte (35, byte ∷ []) fields;
   least = omega arith;
 }
-
-pub data IsType (msg_type : List ℕ) : Type 0 where
-  One : (byte : ℕ) → (byte ≡ 1 → ⊥) → msg_type ≡ byte ∷ [] → IsType msg_type
 
 pub is_byte : (msg_type : List ℕ) (byte : ℕ)
     → (byte ≡ 1 → ⊥) → bytes_eq msg_type (byte ∷ []) ≡ true → IsType msg_type

@@ -1,15 +1,31 @@
 -- Inside: what is known on the way from a body to its translation, whatever its direction.
-use Rattle.std.specs.Prelude.{◌≡◌, ◌++◌, ℕ, List, Option, None, Ok, Err}
+use Rattle.std.specs.Prelude.{◌≡◌, ◌++◌, ℕ, List, [], ◌∷◌, Option, None, Ok, Err}
 use Rattle.field_groups.specs.declared.fault.SplitFault.{SplitFault}
-use Rattle.field_groups.specs.Field.{Field, body_of}
+use Rattle.field_groups.specs.Field.{AreFields, Field, body_of}
+use Rattle.field_groups.specs.Fields.{SplitsInto}
 use Rattle.message_tables.specs.Tables.{Message}
 use Rattle.translation.specs.declared.error.TranslateError.{TranslateError}
 use Rattle.translation.specs.declared.error.TranslateError.TheVariants as errors
-use Rattle.translation.specs.Bodies.{Direction}
+use Rattle.translation.specs.Bodies.{Direction, others}
 use Rattle.translation.specs.Header.{type_of}
 use Rattle.translation.specs.Writing.{IsUnwritten, IsWritten}
 
+-- a type of one byte, which is not SOH
+pub data IsType (msg_type : List ℕ) : Type 0 where
+  One : (byte : ℕ) → (byte ≡ 1 → ⊥) → msg_type ≡ byte ∷ [] → IsType msg_type
+
 module _ (d : Direction) where
+  -- WHAT A DIRECTION OWES of fields whose message becomes another: what they have in common, that
+  -- what is written is split again, and that its type has one byte
+  pub record Keeps (fields : List Field) (m w : Message) : Type 0 where
+    pub kept : d.Kept fields m w
+    pub again : SplitsInto (body_of (others d fields m w)) (others d fields m w) None
+    pub typed : IsType (type_of (d.head fields))
+
+  abbrev pub IsFair : Type 0
+  IsFair = (fields : List Field) → AreFields None fields → (m w : Message)
+      → d.source (type_of fields) fields None ≡ Ok m → d.goes m ≡ Ok w → Keeps fields m w
+
   -- fields of a whole body are read as this message
   pub record AreRead (fields : List Field) (stopped : Option SplitFault) (m : Message)
       : Type 0 where

@@ -14,7 +14,7 @@ pub const MAX_CONTENT: usize = 7936;
 /// # Errors
 ///
 /// `TooLong` exactly where the content has more than 7,936 bytes or the body more than 8,192.
-pub fn check_lengths(content: usize, body: usize) -> Result<(), TranslateError>
+pub(crate) fn check_lengths(content: usize, body: usize) -> Result<(), TranslateError>
     ensures ok { OnOk result (AreWithin content body) }
     ensures long { IfErr result (IsTooMuch content body) }
 {

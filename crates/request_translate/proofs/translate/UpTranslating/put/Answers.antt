@@ -1,6 +1,6 @@
 use Rattle.request_rules.specs.Good.{said}
 use Rattle.request_translate.proofs.GoodFields.{appends}
-use Rattle.request_translate.proofs.translate.put_up.Goals as goal
+use Rattle.request_translate.proofs.translate.UpTranslating.put.Goals as goal
 
 pub returns-in-Ok-clause-ok : goal.returns-in-Ok-clause-ok
 returns-in-Ok-clause-ok c =
