@@ -37,11 +37,11 @@ use Rattle.report_rules.specs.Down.{Rejects50, Type8, Type9}
 use Rattle.report_rules.specs.Rules.{kinds, lacks_type, rules_for, written}
 use Rattle.report_rules.proofs.GoDown.{goes_meaning, rules_of}
 use Rattle.report_rules.proofs.LacksDown.{lacking, means_nothing, no_type, reject_lack, report_lack}
+use Rattle.report_rules.specs.Judged.{AreGood}
+use Rattle.report_rules.proofs.Judged.{fault_by}
 use Rattle.report_rules.proofs.PutDown.{good_eight, nine}
 use Rattle.report_rules.proofs.ReadDown.{read_is_report}
 use Rattle.report_rules.proofs.SenseDown.{not_lacking}
-use Rattle.translation.specs.Judged.{AreGood, AreGoodBy}
-use Rattle.translation.proofs.Judged.{fault_by}
 use Rattle.event_decisions.proofs.Bodies.{bodies_are_read}
 use Rattle.message_answers.specs.declared.answer.Answer.{Answer as GivenAnswer}
 use Rattle.message_answers.specs.declared.asking.Asked.{Asked as GivenAsked}
@@ -141,14 +141,8 @@ module _ (k : GivenKnown) (a : GivenAsked) (split : IsSplit a) (of_venue : a.sid
   module _ (fields : List Field) (good : AreGood (report_table_of a.msg_type.now)
       a.split.now.fields a.split.now.fault fields) where
     pub is_good : IsGoodBy (report_table_of a.msg_type.now) fields
-    is_good =
-        let P : List Field → Type 0 = λ fs. IsGoodBy (report_table_of a.msg_type.now) fs in
-        subst P (sym good.same) (by (report_table_of a.msg_type.now) good.none)
-      where
-        by : (table : Option (Table Kind)) → AreGoodBy table a.split.now.fields
-            → IsGoodBy table a.split.now.fields
-        by None h = h
-        by (Some table) h = h
+    is_good = subst (λ (fs : List Field). IsGoodBy (report_table_of a.msg_type.now) fs)
+        (sym good.same) good.none
 
     are : AreFields None fields
     are =

@@ -4,7 +4,7 @@ ghost use Rattle.std.specs.Prelude.{◌≡◌, [], IfOk, None, false, length, un
 ghost use Rattle.value_kinds.specs.ValueKind as kinds;
 ghost use Rattle.row_values.specs.Kinds.{Value, resend_of, said};
 ghost use Rattle.reports_fix50.specs.Message.{report_table_of};
-ghost use Rattle.translation.specs.Judged.{AreGood};
+ghost use Rattle.report_rules.specs.Judged.{AreGood};
 ghost use Rattle.message_answers.specs.Message.{is_refusal_type};
 ghost use Rattle.message_answers.specs.Seen.{IsAnswer, IsFitAnswer, IsForwarded, IsSplit, Joins};
 

@@ -2,6 +2,7 @@ pub mod Codes
 pub mod CodeDown
 pub mod DatesDown
 pub mod GoDown
+pub mod Judged
 pub mod KindsDown
 pub mod LacksDown
 pub mod PutDown

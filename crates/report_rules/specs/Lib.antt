@@ -1,3 +1,4 @@
 pub mod CodeRules
 pub mod Down
+pub mod Judged
 pub mod Rules

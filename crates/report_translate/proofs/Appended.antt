@@ -1,24 +1,24 @@
 -- The content of the report that stands for fields, as it is appended.
-use Rattle.std.proofs.Common.{◌≡◌, ℕ, List, Option, None, Some, Bool, true, false, refl, sym, subst}
+use Rattle.std.proofs.Common.{◌≡◌, ℕ, List, Option, None, Bool, true, false, refl, sym, subst}
 use Rattle.std.proofs.Common.{codes, if◌then◌else◌}
 use Rattle.std.specs.Prelude.{IfErr, OnOk, Result, Ok, Err}
 use Rattle.std.specs.Str.{bytes_eq}
 use Rattle.field_groups.specs.declared.fault.SplitFault.{SplitFault}
 use Rattle.field_groups.specs.Field.{Field}
 use Rattle.message_tables.specs.FirstFault.{message_in}
-use Rattle.message_tables.specs.Tables.{Message, Table}
+use Rattle.message_tables.specs.Tables.{Message}
 use Rattle.order_meaning.specs.declared.fault.Fault.{Fault}
 use Rattle.order_meaning.specs.declared.fault.Fault.TheVariants.{NotSupported}
 use Rattle.order_meaning.specs.declared.fault.Lack.{Lack}
 use Rattle.order_meaning.specs.declared.fault.Lack.TheVariants as lacks
-use Rattle.row_values.specs.Kinds.{Kind, judge}
+use Rattle.row_values.specs.Kinds.{judge}
 use Rattle.rows_fix50.specs.Header.{completed}
 use Rattle.reports_fix50.specs.Message.{cancel_reject_table, message50, report_table}
 use Rattle.reports_fix50.specs.Message.{report_table_of}
 use Rattle.report_rules.specs.Down.{IsGoodBy, LacksDown, PutsDown}
+use Rattle.report_rules.specs.Judged.{AreGood}
 use Rattle.translation.specs.Errors.{error_of_lack}
 use Rattle.translation.specs.Header.{type_of}
-use Rattle.translation.specs.Judged.{AreGood, AreGoodBy}
 use Rattle.translation.specs.declared.error.TranslateError.{TranslateError}
 use Rattle.report_translate.specs.Reading.{is_report, report_message}
 use Rattle.translation.specs.Going.{Appends, StayBack}
@@ -58,15 +58,9 @@ module _ (fields : List Field) (m : Message)
   refuses (lacks.Tag tag) h = (m, record { whole = refl; read = read }, h m told)
 
 module _ (fields : List Field) (msg_type : List ℕ) (same : msg_type ≡ type_of fields)
-    (good : AreGoodBy (report_table_of (type_of fields)) fields) where
+    (good : IsGoodBy (report_table_of (type_of fields)) fields) where
   pub is_good : IsGoodBy (report_table_of msg_type) fields
-  is_good =
-      let P : List ℕ → Type 0 = λ t. IsGoodBy (report_table_of t) fields in
-      subst P (sym same) (by (report_table_of (type_of fields)) good)
-    where
-      by : (table : Option (Table Kind)) → AreGoodBy table fields → IsGoodBy table fields
-      by None h = h
-      by (Some table) h = h
+  is_good = subst (λ (t : List ℕ). IsGoodBy (report_table_of t) fields) (sym same) good
 
   read : (m : Message) × (report_message (type_of fields) fields None ≡ Ok m)
   read = by (bytes_eq (type_of fields) (codes "8")) refl

@@ -20,14 +20,16 @@ use Rattle.reports_fix50.specs.Message.{report_table_of}
 use Rattle.reports_fix50.specs.Reading.{exec_type_said}
 use Rattle.order_meaning.specs.declared.fault.Fault.{Fault}
 use Rattle.order_meaning.specs.declared.fault.Fault.TheVariants as faults
+use Rattle.report_rules.specs.Down.{IsGoodBy}
+use Rattle.report_rules.specs.Judged.{AreGood}
 use Rattle.report_rules.specs.Rules.{lacks_type, trans_type}
+use Rattle.report_rules.proofs.Judged.{clean_is, fault_by}
 use Rattle.report_rules.proofs.LacksDown.{order_goes_down, type_goes_down, type_lacks}
+use Rattle.report_rules.proofs.PutDown.{good_eight, nine as is_nine}
 use Rattle.translation.specs.Errors.{error_of_fault}
 use Rattle.translation.specs.Header.{type_of}
-use Rattle.translation.specs.Judged.{AreGood, AreGoodBy}
 use Rattle.translation.specs.declared.error.TranslateError.{TranslateError}
 use Rattle.translation.specs.declared.error.TranslateError.TheVariants as errors
-use Rattle.translation.proofs.Judged.{clean_is, fault_by}
 use Rattle.report_translate.specs.Reading.{report_message}
 use Rattle.translation.specs.Going.{AreRead}
 use Rattle.report_translate.specs.Translation.{down}
@@ -48,39 +50,24 @@ module _ (msg_type : List ℕ) (fields : List Field) where
       if executes then Some report_table else
       (if rejects then Some cancel_reject_table else None)
 
-  good_8 : is_8 ≡ true → AreGoodBy (report_table_of msg_type) fields
-      → first_fault judge report_table fields ≡ None
-  good_8 test good =
-      let P : Bool → Type 0 = λ b. AreGoodBy (table_by b is_9) fields in subst P test good
-
-  good_9 : is_8 ≡ false → AreGoodBy (report_table_of msg_type) fields
-      → (is_9 ≡ true) × (first_fault judge cancel_reject_table fields ≡ None)
-  good_9 test good =
-      let P : Bool → Type 0 = λ b. AreGoodBy (table_by b is_9) fields in
-      by is_9 refl (subst P test good)
-    where
-      by : (b : Bool) → is_9 ≡ b → AreGoodBy (table_by false b) fields
-          → (is_9 ≡ true) × (first_fault judge cancel_reject_table fields ≡ None)
-      by true is good = (is, good)
-      by false is good = absurd good
-
   -- the message
   by_table : (table : Table Kind) → first_fault judge table fields ≡ None
       → report_by table fields None ≡ Ok (completed (message_in judge table fields))
   by_table table none = ap completed_by (given table fields None refl none)
 
-  pub read_8 : is_8 ≡ true → AreGoodBy (report_table_of msg_type) fields
+  pub read_8 : is_8 ≡ true → IsGoodBy (report_table_of msg_type) fields
       → report_message msg_type fields None
       ≡ Ok (completed (message_in judge report_table fields))
   read_8 test good =
-      eight msg_type fields None test ∙ by_table report_table (good_8 test good)
+      eight msg_type fields None test ∙ by_table report_table (good_eight msg_type fields good test)
 
-  pub read_9 : is_8 ≡ false → AreGoodBy (report_table_of msg_type) fields
+  pub read_9 : is_8 ≡ false → IsGoodBy (report_table_of msg_type) fields
       → report_message msg_type fields None
       ≡ Ok (completed (message_in judge cancel_reject_table fields))
   read_9 test good =
-      let is = good_9 test good in
-      nine msg_type fields None is.0 ∙ by_table cancel_reject_table is.1
+      let of = is_nine msg_type fields good test in
+      nine msg_type fields None (ap (λ (t : List ℕ). bytes_eq t (codes "9")) (sym of.is))
+      ∙ by_table cancel_reject_table of.none
 
 -- ---- the codes of FIX 4.2
 
@@ -150,10 +137,10 @@ pub ruleset judged = (good_is, fault_is)
 -- ---- type by type
 
 module _ (fields : List Field) (msg_type : List ℕ) (same : msg_type ≡ type_of fields)
-    (good : AreGoodBy (report_table_of (type_of fields)) fields) where
-  good_by : AreGoodBy (report_table_of msg_type) fields
+    (good : IsGoodBy (report_table_of (type_of fields)) fields) where
+  good_by : IsGoodBy (report_table_of msg_type) fields
   good_by =
-      let P : List ℕ → Type 0 = λ m. AreGoodBy (report_table_of m) fields in
+      let P : List ℕ → Type 0 = λ m. IsGoodBy (report_table_of m) fields in
       subst P (sym same) good
 
   are_read : (message : Message) → report_message msg_type fields None ≡ Ok message
@@ -168,7 +155,7 @@ module _ (fields : List Field) (msg_type : List ℕ) (same : msg_type ≡ type_o
         (read_8 msg_type fields test good_by)
 
     pub says_type : IsSome (exec_type_said fields)
-    says_type = type_said fields (good_8 msg_type fields test good_by)
+    says_type = type_said fields (good_eight msg_type fields good_by test)
 
     pub checked : (r : Result (Unit {0}) TranslateError) → OnOk r (lacks_at fields ≡ false)
         → OnOk r (IsCheckedOf fields None)
@@ -208,9 +195,9 @@ pub ruleset by_type = (says_type, checked, refused, rejects)
 
 pub of_good : (fields good : List Field) (stopped : Option SplitFault)
     → AreGood (report_table_of (type_of fields)) fields stopped good
-    → AreGoodBy (report_table_of (type_of good)) good
+    → IsGoodBy (report_table_of (type_of good)) good
 of_good fields good stopped are = let P : List Field → Type 0 =
-    λ f. AreGoodBy (report_table_of (type_of f)) f in subst P (sym are.same) are.none
+    λ f. IsGoodBy (report_table_of (type_of f)) f in subst P (sym are.same) are.none
 
 pub checked_if : (fields good : List Field) (stopped : Option SplitFault)
     (r : Result (Unit {0}) TranslateError)

@@ -4,9 +4,10 @@
 ghost use Rattle.std.specs.Prelude.{◌≡◌, IfErr, IfOk, IsSome, None, OnOk, false};
 ghost use Rattle.reports_fix50.specs.Message.{report_table_of};
 ghost use Rattle.reports_fix50.specs.Reading.{exec_type_said};
+ghost use Rattle.report_rules.specs.Down.{IsGoodBy};
+ghost use Rattle.report_rules.specs.Judged.{AreGood};
 ghost use Rattle.report_translate.specs.Writing.{IsCheckedOf, LacksAt, RefusesCheck, lacks_at};
 ghost use Rattle.translation.specs.Header.{type_of};
-ghost use Rattle.translation.specs.Judged.{AreGood, AreGoodBy};
 
 use field_groups::{Fields, Split, is_type};
 use report_rules::has_trans_type;
@@ -47,7 +48,7 @@ fn check_codes(fields: &Fields<'_>) -> Result<(), TranslateError>
 /// one.
 #[tactic(auto, using(crate::proofs::GoodFields::by_type))]
 fn check_good(fields: &Fields<'_>) -> Result<(), TranslateError>
-    requires { AreGoodBy (report_table_of (type_of fields.now)) fields.now }
+    requires { IsGoodBy (report_table_of (type_of fields.now)) fields.now }
     ensures ok { OnOk result (IsCheckedOf fields.now None) }
     ensures refused { IfErr result (RefusesCheck fields.now None) }
 {

@@ -2,10 +2,10 @@
 
 ghost use Rattle.std.specs.Prelude.{IfErr, None, OnOk};
 ghost use Rattle.reports_fix50.specs.Message.{report_table_of};
+ghost use Rattle.report_rules.specs.Down.{IsGoodBy};
 ghost use Rattle.report_translate.specs.Translation.{down};
 ghost use Rattle.translation.specs.Going.{Appends, StayBack};
 ghost use Rattle.translation.specs.Header.{type_of};
-ghost use Rattle.translation.specs.Judged.{AreGoodBy};
 
 use crate::checking::good;
 use field_groups::{Fields, Split};
@@ -17,7 +17,7 @@ use translation::{HeadDown, TranslateError, Translating, lacking, msg_type, writ
 /// Appends the content of the report that fields at no fault say.
 #[tactic(auto, using(crate::proofs::Appended::of_put))]
 fn put_good(alloc: Global, fields: &Fields<'_>, out: &mut Vec<u8>) -> Result<(), TranslateError>
-    requires { AreGoodBy (report_table_of (type_of fields.now)) fields.now }
+    requires { IsGoodBy (report_table_of (type_of fields.now)) fields.now }
     ensures ok { OnOk result (Appends down fields.now None out.old.items out.new.items) }
     ensures refused { IfErr result (StayBack down fields.now None) }
 {

@@ -1,5 +1,5 @@
 -- Own: what `translate up` makes of a body of FIX 4.2, and why it makes nothing of it.
-use Rattle.std.specs.Prelude.{◌≡◌, ℕ, List, Option, Some, None, Result, Err, IsTrue, is_some}
+use Rattle.std.specs.Prelude.{◌≡◌, ℕ, List, Option, None, Result, IsTrue, is_some}
 use Rattle.frame_grammar.specs.declared.frame.Kind.TheVariants.{Fixt11}
 use Rattle.field_groups.specs.Field.{Field}
 use Rattle.field_groups.specs.Fields.{SplitsInto}
@@ -9,9 +9,8 @@ use Rattle.dict_fix42.specs.Message.{message42}
 use Rattle.dict_fix42.specs.Sense.{sense42, request42}
 use Rattle.dict_fix50.specs.Sense.{sense50, request50}
 use Rattle.translation.specs.Bodies as bodies
-use Rattle.translation.specs.Bodies.{Direction, Goes}
+use Rattle.translation.specs.Bodies.{Direction}
 use Rattle.translation.specs.declared.error.TranslateError.{TranslateError}
-use Rattle.translation.specs.declared.error.TranslateError.TheVariants as errors
 use Rattle.translation.specs.Header.{type_of, with_content}
 pub use Rattle.request_rules.specs.Canonical.{IsRequest, News, Cancels, Replaces, Statuses}
 use Rattle.request_rules.specs.Lack.{lack42}
@@ -57,12 +56,9 @@ IsOutcome body outcome = bodies.IsOutcome up body outcome
 abbrev pub IsRefused : List ℕ → TranslateError → Type 0
 IsRefused body error = bodies.IsRefused up body error
 
--- the outcome of a check, which judges no length
+-- the outcome of a check, which judges no length, and why a body was refused by it
 abbrev pub IsChecked : List ℕ → Option TranslateError → Type 0
-IsChecked body None = (fields : List Field) × Goes up body fields
-IsChecked body (Some errors.TooLong) = ⊥
-IsChecked body (Some error) = IsOutcome body (Err error)
+IsChecked body checked = bodies.IsChecked up body checked
 
 abbrev pub IsRefusedByCheck : List ℕ → TranslateError → Type 0
-IsRefusedByCheck body errors.NoMemory = Unit {0}
-IsRefusedByCheck body error = IsChecked body (Some error)
+IsRefusedByCheck body error = bodies.IsRefusedByCheck up body error

@@ -1,11 +1,8 @@
 -- Both ways are fair: what is written means the same, changes each book alike, and is split and
--- read again behind its header. And what a check of a request answers.
+-- read again behind its header.
 use Rattle.std.proofs.Common.{◌≡◌, ◌∙◌, ℕ, List, [], ◌∷◌, true, None, refl, sym, ap, subst, ◌++◌}
 use Rattle.std.proofs.Common.{Option, Ok}
-use Rattle.std.specs.Prelude.{IfErr, OnOk, Result, Err}
 use Rattle.field_groups.specs.Field.{Field, AreFields}
-use Rattle.field_groups.specs.declared.fault.SplitFault.{SplitFault}
-use Rattle.field_groups.specs.Fields.{SplitsInto}
 use Rattle.message_tables.specs.FirstFault.{message_of}
 use Rattle.message_tables.specs.Tables.{Message, Item, Table}
 use Rattle.order_meaning.specs.Request.{RequestKind, New}
@@ -28,13 +25,9 @@ use Rattle.rule_rows.specs.ByRules.{by_rules, lack_by}
 use Rattle.request_rules.proofs.ByType.{asked50, items50, letter_of}
 use Rattle.report_rules.proofs.SenseDown.{not_lacking}
 use Rattle.translation.specs.Header.{type_of, with_content, carried, head_down}
-use Rattle.translation.specs.declared.error.TranslateError.{TranslateError}
-use Rattle.translation.specs.declared.error.TranslateError.TheVariants as errors
-use Rattle.translation.specs.Bodies.{Goes}
-use Rattle.translation.specs.Going.{AreGone, IsFair, IsType, Keeps, StayBack}
+use Rattle.translation.specs.Going.{IsFair, IsType, Keeps}
 use Rattle.translation.proofs.BehindHeader.{front, items_behind, whole}
 use Rattle.translation.proofs.CarriedHeader.{head_is_own, head_value, HasHeader}
-use Rattle.translation.proofs.Going.{goes, refused}
 use Rattle.translation.proofs.CarriedDown.{head_clear, type_down}
 use Rattle.translation.proofs.SplitAgain.{clear_again}
 use Rattle.request_translate.proofs.AgainFields.{of_kind, split_again}
@@ -47,7 +40,7 @@ use Rattle.report_translate.proofs.OfType.{type_is}
 use Rattle.translate_fix44.specs.Put.{asked44, items_of}
 use Rattle.translate_fix44.specs.Rules.{kinds, up_content, up_lack, up_rules, down_content}
 use Rattle.translate_fix44.specs.Rules.{down_message, rules_for}
-use Rattle.translate_fix44.specs.Translation.{up, down, IsRefusedByCheck, direction}
+use Rattle.translate_fix44.specs.Translation.{up, down, direction}
 use Rattle.translate_fix44.specs.declared.translate.Way.{Way}
 use Rattle.translate_fix44.specs.declared.translate.Way.TheVariants.{Down, Up}
 use Rattle.translate_fix44.proofs.Go.{read_go_up, IsDown, books_alike, reject_goes_down}
@@ -159,23 +152,3 @@ down_fair fields are m w read goes = by_either fields are m w read goes (either 
 pub fair : (way : Way) → IsFair (direction way)
 fair Up = up_fair
 fair Down = down_fair
-
-module _ (body : List ℕ) (fields : List Field) (stopped : Option SplitFault)
-    (split : SplitsInto body fields stopped) where
-  pub checked : (r : Result (Unit {0}) TranslateError) → OnOk r (AreGone up fields stopped)
-      → OnOk r ((others : List Field) × Goes up body others)
-  checked (Ok done) h = (fields, goes up fields stopped body split up_fair h)
-  checked (Err error) h = tt
-
-  by_check : (error : TranslateError) → StayBack up fields stopped error
-      → IsRefusedByCheck body error
-  by_check errors.NoMemory h = tt
-  by_check errors.TooLong h = h
-  by_check error h = refused up fields stopped body split up_fair error h
-
-  pub refused_by_check : (r : Result (Unit {0}) TranslateError)
-      → IfErr r (StayBack up fields stopped) → IfErr r (IsRefusedByCheck body)
-  refused_by_check (Ok done) h = tt
-  refused_by_check (Err error) h = by_check error h
-
-pub ruleset of_check = (checked, refused_by_check)

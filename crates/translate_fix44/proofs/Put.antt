@@ -25,27 +25,27 @@ use Rattle.rows_fix50.specs.Header.{completed_by}
 use Rattle.refusal_parts.specs.Once.{once, once_by}
 use Rattle.dict_fix44.specs.Message.{message44_by, request_message44, request_table_of, refusal44}
 use Rattle.dict_fix44.specs.Message.{refusal_table_of}
-use Rattle.reports_fix50.specs.Message.{cancel_reject_table, message50, report_table}
+use Rattle.reports_fix50.specs.Message.{cancel_reject_table, report_table}
 use Rattle.reports_fix50.specs.Message.{report_table_of}
 use Rattle.rule_rows.specs.ByRules.{by_rules, content_by, lack_by, lack_if, or_lack}
 use Rattle.rule_rows.specs.declared.rules.Rule.{Rule as CodeRule}
 use Rattle.rule_rows.specs.CodeRules.{AreFor, IsLackOf, lacked, table_of, writes as all_write}
 use Rattle.rule_rows.proofs.Written.{all_lacked, all_written}
 use Rattle.request_rules.proofs.ByType.{letter_of, by_tables}
-use Rattle.report_rules.proofs.PutDown.{good_eight, is_eight, nine as is_nine}
+use Rattle.report_rules.specs.Judged.{AreGood}
+use Rattle.report_rules.proofs.Judged.{clean_is, fault_by}
+use Rattle.report_rules.proofs.PutDown.{good_eight, nine as is_nine}
 use Rattle.report_rules.proofs.SourceDown.{read_by}
 use Rattle.translation.specs.Bodies.{Direction}
 use Rattle.translation.specs.Going.{Appends, AreGone, StayBack}
 use Rattle.translation.specs.Header.{type_of}
 use Rattle.translation.specs.Errors.{error_of_fault}
-use Rattle.translation.specs.Judged.{AreGood, AreGoodBy}
 use Rattle.translation.specs.declared.error.TranslateError.{TranslateError}
 use Rattle.translation.specs.declared.error.TranslateError.TheVariants as errors
 use Rattle.translation.proofs.Going.{appends_of, stays_of}
-use Rattle.translation.proofs.Judged.{clean_is, fault_by}
 use Rattle.report_translate.specs.Reading.{report_message}
 use Rattle.report_translate.specs.Refusals.{IsFaultyRefusal, IsGoodRefusal}
-use Rattle.report_translate.proofs.GoodFields.{fault_is, good_is}
+use Rattle.report_translate.proofs.GoodFields.{fault_is, good_is, read_8, read_9}
 use Rattle.translate_fix44.specs.declared.rules.Own.{Own as CodeOwn}
 use Rattle.translate_fix44.specs.CodeRules.{Source, code, has_terms, lacks, lacks_role_in, writes}
 use Rattle.translate_fix44.specs.Put.{IsRead, IsReport, Lacks, asked44, message, IsAsked, IsGoodBy}
@@ -185,38 +185,27 @@ module _ (s : Source) (has : IsRead s) where
 
 -- ---- a report
 
--- what fields are read as
-module _ (fields : List Field) where
-  pub report_is : type_of fields ≡ 56 ∷ [] → first_fault judge report_table fields ≡ None
-      → report_message (type_of fields) fields None ≡ Ok (read_by report_table fields)
-  unfolding report_message message50
-  report_is type none =
-      ap (λ (t : List ℕ). report_message t fields None) type
-      ∙ ap completed_by (given report_table fields None refl none)
+-- what fields are read as, by the type
+module _ (fields : List Field) (good : IsReport fields) (msg_type : List ℕ)
+    (is : msg_type ≡ type_of fields) where
+  own : (b : Bool) → bytes_eq msg_type (codes "8") ≡ b → bytes_eq (type_of fields) (codes "8") ≡ b
+  own b test = ap (λ (t : List ℕ). bytes_eq t (codes "8")) (sym is) ∙ test
 
-  pub reject_is : type_of fields ≡ 57 ∷ [] → first_fault judge cancel_reject_table fields ≡ None
-      → report_message (type_of fields) fields None ≡ Ok (read_by cancel_reject_table fields)
-  unfolding report_message message50
-  reject_is type none =
-      ap (λ (t : List ℕ). report_message t fields None) type
-      ∙ ap completed_by (given cancel_reject_table fields None refl none)
+  pub eight : bytes_eq msg_type (codes "8") ≡ true
+      → (report_message (type_of fields) fields None ≡ Ok (read_by report_table fields))
+      × (first_fault judge report_table fields ≡ None)
+  eight test = (
+    read_8 (type_of fields) fields (own true test) good,
+    good_eight (type_of fields) fields good (own true test),
+  )
 
-  -- ---- by the type
-
-  module _ (good : IsReport fields) (msg_type : List ℕ) (is : msg_type ≡ type_of fields) where
-    pub eight : bytes_eq msg_type (codes "8") ≡ true
-        → (type_of fields ≡ 56 ∷ []) × (first_fault judge report_table fields ≡ None)
-    eight test =
-        let own = ap (λ (t : List ℕ). bytes_eq t (codes "8")) (sym is) ∙ test in (
-          sym (is_eight (type_of fields) fields own),
-          good_eight (type_of fields) fields good own,
-        )
-
-    pub nine : bytes_eq msg_type (codes "8") ≡ false
-        → (type_of fields ≡ 57 ∷ []) × (first_fault judge cancel_reject_table fields ≡ None)
-    nine test =
-        let h = is_nine (type_of fields) fields good
-        (ap (λ (t : List ℕ). bytes_eq t (codes "8")) (sym is) ∙ test) in (sym h.is, h.none)
+  pub nine : bytes_eq msg_type (codes "8") ≡ false
+      → (report_message (type_of fields) fields None ≡ Ok (read_by cancel_reject_table fields))
+      × (first_fault judge cancel_reject_table fields ≡ None)
+  nine test = (
+    read_9 (type_of fields) fields (own false test) good,
+    (is_nine (type_of fields) fields good (own false test)).none,
+  )
 
 -- ---- fields that were judged, and those of the body
 
@@ -293,11 +282,7 @@ module _ (fields : List Field) (stopped : Option SplitFault) (msg_type : List �
     are = good_is fields stopped good (is_clean (Ok good) clean)
 
     pub told_is : IsReport good.now
-    told_is = rw are.same (by (report_table_of (type_of fields)) are.none)
-      where
-        by : (t : Option (Table Kind)) → AreGoodBy t fields → IsGoodBy t fields
-        by None h = h
-        by (Some table) h = h
+    told_is = rw are.same are.none
 
     pub told_put : (before after : List ℕ) → Appends down good.now None before after
         → Appends down fields stopped before after
@@ -335,7 +320,7 @@ module _ (body : List ℕ) (fields : List Field) (stopped : Option SplitFault)
       let whole = subst (λ (s : Option SplitFault). SplitsInto body fields s) are.whole split in
       by table refl whole are.none
     where
-      by : (t : Option (Table Kind)) → table ≡ t → SplitsInto body fields None → AreGoodBy t fields
+      by : (t : Option (Table Kind)) → table ≡ t → SplitsInto body fields None → IsGoodBy t fields
           → IsGoodRefusal refusal44 body
       by None e whole good = absurd good
       by (Some t) e whole good = record {

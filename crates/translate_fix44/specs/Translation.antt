@@ -1,5 +1,5 @@
 -- Own: the two directions of FIX 4.4.
-use Rattle.std.specs.Prelude.{◌≡◌, ℕ, List, Option, Some, None, Ok, Err}
+use Rattle.std.specs.Prelude.{◌≡◌, ℕ, List, Option, None, Ok}
 use Rattle.frame_grammar.specs.declared.frame.Kind.TheVariants.{Fix44, Fixt11}
 use Rattle.field_groups.specs.Field.{Field}
 use Rattle.message_tables.specs.Tables.{Message}
@@ -11,10 +11,10 @@ use Rattle.dict_fix50.specs.Message.{message50}
 use Rattle.dict_fix50.specs.Sense.{request50}
 use Rattle.reports_fix50.specs.Sense.{report50}
 use Rattle.reports_fix50.specs.Step.{step50}
-use Rattle.translation.specs.Bodies.{Direction, Goes, IsOutcome}
+use Rattle.translation.specs.Bodies as bodies
+use Rattle.translation.specs.Bodies.{Direction}
 use Rattle.translation.specs.Header.{head_down, type_of, with_content}
 use Rattle.translation.specs.declared.error.TranslateError.{TranslateError}
-use Rattle.translation.specs.declared.error.TranslateError.TheVariants as errors
 use Rattle.report_translate.specs.Reading.{report_message}
 use Rattle.translate_fix44.specs.declared.translate.Way.{Way}
 use Rattle.translate_fix44.specs.declared.translate.Way.TheVariants.{Up, Down}
@@ -63,10 +63,4 @@ direction Down = down
 
 -- the outcome of a check of a request, which judges no length
 abbrev pub IsChecked : List ℕ → Option TranslateError → Type 0
-IsChecked body None = (fields : List Field) × Goes up body fields
-IsChecked body (Some errors.TooLong) = ⊥
-IsChecked body (Some error) = IsOutcome up body (Err error)
-
-abbrev pub IsRefusedByCheck : List ℕ → TranslateError → Type 0
-IsRefusedByCheck body errors.NoMemory = Unit {0}
-IsRefusedByCheck body error = IsChecked body (Some error)
+IsChecked body checked = bodies.IsChecked up body checked

@@ -4,11 +4,11 @@ ghost use Rattle.std.specs.Prelude.{◌≡◌, ◌++◌, ℕ, List, IfErr, None,
 ghost use Rattle.field_groups.specs.Field.{Field};
 ghost use Rattle.first_faults.specs.Gives.{IsCleanIf};
 ghost use Rattle.dict_fix44.specs.Message.{refusal44, refusal_table_of};
-ghost use Rattle.translation.specs.Bodies.{Goes, IsRefused, IsTranslation};
+ghost use Rattle.translation.specs.Bodies.{Goes, IsRefused, IsRefusedByCheck, IsTranslation};
 ghost use Rattle.translation.specs.Going.{Appends, AreGone, StayBack};
 ghost use Rattle.translation.specs.Header.{type_of};
 ghost use Rattle.report_translate.specs.Refusals.{IsFaultyRefusal, IsGoodRefusal};
-ghost use Rattle.translate_fix44.specs.Translation.{IsRefusedByCheck, direction, down, up};
+ghost use Rattle.translate_fix44.specs.Translation.{direction, down, up};
 
 use crate::asking::good_request;
 use crate::putting::{lack_up, put_down, put_up};
@@ -228,10 +228,9 @@ impl Translator44 {
     ///
     /// `Faulty` and `Lacking` as [`Translator44::translate`] has them; `NoMemory` for want of
     /// memory.
-    #[tactic(auto, using(crate::proofs::Fair::of_check))]
     pub fn check(&mut self, body: &[u8]) -> Result<(), TranslateError>
         ensures ok { OnOk result ((fields : List Field) × Goes up body.now fields) }
-        ensures refused { IfErr result (IsRefusedByCheck body.now) }
+        ensures refused { IfErr result (IsRefusedByCheck up body.now) }
     {
         let mut split = Split::new(self.alloc);
         split_into(body, &mut split)?;

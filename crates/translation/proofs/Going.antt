@@ -9,7 +9,8 @@ use Rattle.field_groups.specs.Fields.{SplitsInto}
 use Rattle.message_tables.specs.Tables.{Message}
 use Rattle.translation.specs.declared.error.TranslateError.{TranslateError}
 use Rattle.translation.specs.declared.error.TranslateError.TheVariants as errors
-use Rattle.translation.specs.Bodies.{Direction, Goes, IsRead, IsRefused, IsTranslation, others}
+use Rattle.translation.specs.Bodies.{Direction, Goes, IsRead, IsRefused, IsRefusedByCheck}
+use Rattle.translation.specs.Bodies.{IsTranslation, others}
 use Rattle.translation.specs.Going.{Appends, AreGone, AreRead, IsFair, IsOtherOf, Keeps}
 use Rattle.translation.specs.Going.{Refuses, StayBack}
 use Rattle.translation.specs.Header.{carried, type_of}
@@ -118,3 +119,21 @@ module _ (d : Direction) where
             record { fields = fields; stopped = stopped; split = split; read = h }
         refused (errors.Lacking tag) h =
             record { fields = fields; read = is_read h.0 h.1; lack = h.2 }
+
+        -- ---- what a check answers
+
+        pub checked : (r : Result (Unit {0}) TranslateError) → OnOk r (AreGone d fields stopped)
+            → OnOk r ((others : List Field) × Goes d body others)
+        checked (Ok done) h = (fields, goes h)
+        checked (Err error) h = tt
+
+        by_check : (error : TranslateError) → StayBack d fields stopped error
+            → IsRefusedByCheck d body error
+        by_check errors.NoMemory h = tt
+        by_check errors.TooLong h = h
+        by_check error h = refused error h
+
+        pub refused_by_check : (r : Result (Unit {0}) TranslateError)
+            → IfErr r (StayBack d fields stopped) → IfErr r (IsRefusedByCheck d body)
+        refused_by_check (Ok done) h = tt
+        refused_by_check (Err error) h = by_check error h

@@ -3,7 +3,6 @@ pub mod Bodies
 pub mod CarriedDown
 pub mod CarriedHeader
 pub mod Going
-pub mod Judged
 pub mod Kept
 pub mod Outcomes
 pub mod SplitAgain

@@ -1,5 +1,5 @@
 -- Own: what a translation makes of a body, and why it makes nothing of it, whatever its direction.
-use Rattle.std.specs.Prelude.{◌≡◌, ◌≤◌, ◌<◌, ℕ, List, length, Option, None, Result, Ok, Err}
+use Rattle.std.specs.Prelude.{◌≡◌, ◌≤◌, ◌<◌, ℕ, List, length, Option, Some, None, Result, Ok, Err}
 use Rattle.frame_grammar.specs.declared.frame.Kind.{Kind}
 use Rattle.frame_grammar.specs.declared.frame.TheConstants.{MAX_BODY}
 use Rattle.frame_grammar.specs.Frame.{IsFrame, frame_of}
@@ -95,6 +95,16 @@ module _ (d : Direction) where
   abbrev pub IsRefused : List ℕ → TranslateError → Type 0
   IsRefused body errors.NoMemory = Unit {0}
   IsRefused body error = IsOutcome body (Err error)
+
+  -- the outcome of a check, which judges no length
+  abbrev pub IsChecked : List ℕ → Option TranslateError → Type 0
+  IsChecked body None = (fields : List Field) × Goes body fields
+  IsChecked body (Some errors.TooLong) = ⊥
+  IsChecked body (Some error) = IsOutcome body (Err error)
+
+  abbrev pub IsRefusedByCheck : List ℕ → TranslateError → Type 0
+  IsRefusedByCheck body errors.NoMemory = Unit {0}
+  IsRefusedByCheck body error = IsChecked body (Some error)
 
   -- A body has one outcome.
   abbrev pub HasOneOutcome : Type 0

@@ -7,7 +7,7 @@ use Rattle.translate_fix44.specs.CodeRules.{source_of}
 use Rattle.translate_fix44.specs.Rules.{Else, Same, down_rules}
 use Rattle.translate_fix44.specs.Translation.{down}
 use Rattle.translate_fix44.proofs.Known.{known_reject, known_report}
-use Rattle.translate_fix44.proofs.Put.{eight, nine, on_err, on_ok, reject_is, report_is}
+use Rattle.translate_fix44.proofs.Put.{eight, nine, on_err, on_ok}
 use Rattle.translate_fix44.proofs.putting.put_down.Goals as goal
 
 pub read_lines-requires : goal.read_lines-requires
@@ -29,7 +29,7 @@ returns-in_ok-parties-clause-ok c =
     (sym c.if-is_type.ensures) in
     on_ok s report_table c.execution_report.ensures _
     (known_report s c.in_ok-parties.ensures is.1 refl) (down_rules (Same 41))
-    c.report_rules.result.now c.report_rules.ensures down (report_is c.args.fields.now is.0 is.1)
+    c.report_rules.result.now c.report_rules.ensures down is.0
     refl refl c.put_rules.result c.args.out.now.items c.put_rules.new.out.items
     c.put_rules.ensures.said c.put_rules.ensures.done
 
@@ -40,7 +40,7 @@ returns-in_ok-parties-clause-lack c =
     (sym c.if-is_type.ensures) in
     on_err s report_table c.execution_report.ensures _
     (known_report s c.in_ok-parties.ensures is.1 refl) (down_rules (Same 41))
-    c.report_rules.result.now c.report_rules.ensures down (report_is c.args.fields.now is.0 is.1)
+    c.report_rules.result.now c.report_rules.ensures down is.0
     refl refl c.put_rules.result c.put_rules.ensures.lack
 
 pub returns-else-is_type-clause-ok : goal.returns-else-is_type-clause-ok
@@ -50,7 +50,7 @@ returns-else-is_type-clause-ok c =
     (sym c.if-is_type.ensures) in
     on_ok s cancel_reject_table c.cancel_reject.ensures _ (known_reject s is.1 refl)
     (down_rules (By (Else 41 None))) c.reject_rules.result.now c.reject_rules.ensures down
-    (reject_is c.args.fields.now is.0 is.1) refl refl c.put_rules-else-is_type.result
+    is.0 refl refl c.put_rules-else-is_type.result
     c.args.out.now.items c.put_rules-else-is_type.new.out.items
     c.put_rules-else-is_type.ensures.said c.put_rules-else-is_type.ensures.done
 
@@ -61,5 +61,5 @@ returns-else-is_type-clause-lack c =
     (sym c.if-is_type.ensures) in
     on_err s cancel_reject_table c.cancel_reject.ensures _ (known_reject s is.1 refl)
     (down_rules (By (Else 41 None))) c.reject_rules.result.now c.reject_rules.ensures down
-    (reject_is c.args.fields.now is.0 is.1) refl refl c.put_rules-else-is_type.result
+    is.0 refl refl c.put_rules-else-is_type.result
     c.put_rules-else-is_type.ensures.lack

@@ -8,12 +8,13 @@ use Rattle.order_meaning.specs.declared.fault.Fault.{Fault}
 use Rattle.first_faults.specs.Faults.{message_by}
 use Rattle.first_faults.specs.Gives.{IsCleanIf}
 use Rattle.row_values.specs.Kinds.{Kind}
-use Rattle.translation.specs.Judged.{AreGood, AreGoodBy}
+use Rattle.report_rules.specs.Down.{IsGoodBy}
+use Rattle.report_rules.specs.Judged.{AreGood}
 
 module _ (fields : List Field) (stopped : Option SplitFault) where
   clean_by : (table : Option (Table Kind)) (good : Bor (List Field))
       → IsCleanIf table fields stopped (Ok good)
-      → (good.now ≡ fields) × (stopped ≡ None) × AreGoodBy table fields
+      → (good.now ≡ fields) × (stopped ≡ None) × IsGoodBy table fields
   clean_by None good h = absurd h
   clean_by (Some table) good h = h
 
