@@ -16,7 +16,6 @@ use Rattle.order_meaning.specs.Report.{Report, Executed, NotCanceled, filled, or
 use Rattle.order_meaning.specs.declared.fault.Fault.{Fault}
 use Rattle.order_meaning.specs.declared.fault.Fault.TheVariants.{NotSupported}
 use Rattle.message_tables.specs.Content.{content}
-use Rattle.value_kinds.specs.ValueKind.{Filled, Flag}
 use Rattle.row_values.specs.Kinds.{Kind, judge}
 use Rattle.first_faults.specs.Faults.{told}
 use Rattle.rows_fix42.specs.Header.{table}
@@ -29,7 +28,6 @@ use Rattle.reports_fix50.specs.Message.{report_table, cancel_reject_table}
 use Rattle.reports_fix50.specs.Sense.{report50}
 use Rattle.reports_fix50.specs.Step.{step50}
 use Rattle.sound_laws.specs.Sound.{IsSound}
-use Rattle.sound_laws.proofs.Each.{◌&◌}
 use Rattle.sound_laws.proofs.PlainFields.{AreFew, clear_fields, few_of, times}
 use Rattle.sound_laws.proofs.ReadSound.{IsClearField}
 use Rattle.sound_laws.proofs.TableFits.{table_fits}
@@ -44,6 +42,7 @@ use Rattle.translation.specs.Header.{carried, head_down, type_of, with_content}
 use Rattle.translation.proofs.BehindHeader.{IsHead, front, items_behind, read_behind}
 use Rattle.translation.proofs.CarriedHeader.{IsOwnHead, HasHeader, head_is_own, head_value}
 use Rattle.translation.proofs.CarriedHeader.{own_said}
+use Rattle.sound_laws.proofs.RowsSaid.{optional_said}
 use Rattle.translation.proofs.CarriedDown.{head_clear, own_down, resend_down, type_down}
 use Rattle.translation.proofs.SplitAgain.{clear_again}
 use Rattle.translation.specs.Going.{IsType}
@@ -61,22 +60,7 @@ module _ (letter : ℕ) (items : List (Item Kind)) (msg_type : List ℕ) (fields
   t = table letter items
 
   header_said : IsHead t values r
-  header_said =
-      own_said _ 35 Filled _ own.kind
-      & own_said _ 49 Filled _ own.sender
-      & own_said _ 56 Filled _ own.target
-      & own_said _ 34 Filled _ own.number
-      & own_said _ 43 Filled _ own.dup
-      & own_said _ 97 Flag _ own.resend
-      & own_said _ 52 Filled _ own.time
-      & own_said _ 122 Filled _ own.first_time
-      & own_said _ 50 Filled None tt
-      & own_said _ 57 Filled None tt
-      & own_said _ 142 Filled None tt
-      & own_said _ 143 Filled None tt
-      & own_said _ 347 Filled None tt
-      & own_said _ 369 Filled None tt
-      & tt
+  header_said = search (own_said, optional_said) parts 20
 
   message_again : items_behind t values r ≡ true → table_fits t (front t values r) ≡ true
       → IsSound judge t r → unwrap_or (option_map flag_of (value_at 97 fields)) false ≡ r.resend

@@ -14,10 +14,11 @@ use Rattle.message_tables.specs.Tables.{Said, value_at}
 use Rattle.value_kinds.specs.ValueKind.{Filled, Flag, spelling}
 use Rattle.row_values.specs.Kinds.{judge}
 use Rattle.sound_laws.specs.Sound.{IsClear}
+use Rattle.sound_laws.proofs.Each.{each_by}
 use Rattle.sound_laws.proofs.ReadSound.{IsClearField}
 use Rattle.sound_laws.proofs.SpelledAgain.{clear_front}
-use Rattle.translation.specs.Header.{carried_down, head_down, type_of}
-use Rattle.translation.proofs.CarriedHeader.{IsOwn, IsOwnHead}
+use Rattle.translation.specs.Header.{carried_down, carried_tags, head_down, type_of}
+use Rattle.translation.proofs.CarriedHeader.{IsOwn, IsOwnHead, kind_at}
 use Rattle.translation.specs.Going.{IsType, One as OneByte}
 
 -- a value is carried as it stands, or cut
@@ -108,23 +109,21 @@ same_values (Some v) = refl
 pub resend_down : (fields : List Field) → value_at 97 (head_down fields) ≡ value_at 97 fields
 resend_down fields = value_down 97 fields ∙ same_values (value_at 97 fields)
 
+own_carried : (tag : ℕ) (said : Said) → IsOwn (kind_at tag) said
+    → IsOwn (kind_at tag) (option_map (carried_down tag) said)
+own_carried tag said =
+    elim (tag == 97) as (λ b. (tag == 97) ≡ b → IsOwn (if b then Flag else Filled) said
+    → IsOwn (if b then Flag else Filled) (option_map (carried_down tag) said)) [
+      | true ↦ λ e own. rw (eqb-true tag 97 e, same_values said) own
+      | false ↦ λ e. own_moment tag said
+    ] refl
+
 -- THE HEADER that is carried down
 pub own_down : (msg_type : List ℕ) (fields : List Field) → IsOwnHead msg_type fields
     → IsOwnHead msg_type (head_down fields)
 own_down msg_type fields own = record {
   kind = own.kind;
-  sender = at 49 own.sender;
-  target = at 56 own.target;
-  number = at 34 own.number;
-  dup = at 43 own.dup;
-  resend =
-      let P : Said → Type 0 = λ s. IsOwn Flag s in subst P (sym (resend_down fields)) own.resend;
-  time = at 52 own.time;
-  first_time = at 122 own.first_time;
+  carried = each_by _ _ (λ tag own. subst (λ (s : Said). IsOwn (kind_at tag) s)
+      (sym (value_down tag fields)) (own_carried tag (value_at tag fields) own))
+      carried_tags own.carried;
 }
-  where
-    at : (tag : ℕ) → IsOwn Filled (value_at tag fields)
-        → IsOwn Filled (value_at tag (head_down fields))
-    at tag said =
-        let P : Said → Type 0 = λ s. IsOwn Filled s in
-        subst P (sym (value_down tag fields)) (own_moment tag (value_at tag fields) said)

@@ -2,7 +2,7 @@
 -- read of are at no fault.
 use Rattle.std.proofs.Common.{◌≡◌, ℕ, List, Some, None, true, false, Ok, Err, refl, ap, subst, ◌∙◌}
 use Rattle.std.proofs.Common.{arith, sym}
-use Rattle.std.specs.Prelude.{IfSome, ◌==◌, if◌then◌else◌}
+use Rattle.std.specs.Prelude.{IfSome, not, ◌==◌, if◌then◌else◌}
 use Rattle.std.specs.List.{AllByRecursion}
 use Rattle.std.proofs.lemmas.Bool.Decides.{nat_tests}
 use Rattle.field_groups.specs.Data.{is_data_tag}
@@ -13,6 +13,7 @@ use Rattle.message_tables.specs.FirstFault.{allowed, beyond, first_fault, mark_o
 use Rattle.value_kinds.specs.ValueKind.{ValueKind, Filled, Flag, Spelling, spelling}
 use Rattle.row_values.specs.Kinds.{Kind, Value, judge, row, verdict_of}
 use Rattle.sound_laws.specs.Sound.{IsClear, IsSaid}
+use Rattle.sound_laws.proofs.Each.{all_true, each_two, not_true}
 use Rattle.sound_laws.proofs.Good.{held, IsGood, all_good}
 use Rattle.sound_laws.proofs.ReadSound.{IsClearField}
 use Rattle.sound_laws.proofs.RowsSaid.{optional_said}
@@ -37,26 +38,25 @@ own_said all tag kind None own = optional_said all tag (Value kind) None tt tt
 own_said all tag kind (Some text) own =
     optional_said all tag (Value kind) (Some text) (ap verdict_of own.0) own.1
 
+-- the kind of a field of the header that is carried
+abbrev pub kind_at : ℕ → ValueKind
+kind_at tag = if tag == 97 then Flag else Filled
+
 -- the header's values, each its own spelling
 pub record IsOwnHead (msg_type : List ℕ) (fields : List Field) : Type 0 where
   pub kind : IsOwn Filled (Some msg_type)
-  pub sender : IsOwn Filled (value_at 49 fields)
-  pub target : IsOwn Filled (value_at 56 fields)
-  pub number : IsOwn Filled (value_at 34 fields)
-  pub dup : IsOwn Filled (value_at 43 fields)
-  pub resend : IsOwn Flag (value_at 97 fields)
-  pub time : IsOwn Filled (value_at 52 fields)
-  pub first_time : IsOwn Filled (value_at 122 fields)
+  pub carried : AllByRecursion (λ tag. IsOwn (kind_at tag) (value_at tag fields)) carried_tags
 
 -- a table has the rows of the header that is carried
-pub record HasHeader (table : Table Kind) : Type 0 where
-  pub sender : row_at 49 (all_rows table) ≡ Some (row Optional 49 Filled)
-  pub target : row_at 56 (all_rows table) ≡ Some (row Optional 56 Filled)
-  pub number : row_at 34 (all_rows table) ≡ Some (row Optional 34 Filled)
-  pub dup : row_at 43 (all_rows table) ≡ Some (row Optional 43 Filled)
-  pub resend : row_at 97 (all_rows table) ≡ Some (row Optional 97 Flag)
-  pub time : row_at 52 (all_rows table) ≡ Some (row Optional 52 Filled)
-  pub first_time : row_at 122 (all_rows table) ≡ Some (row Optional 122 Filled)
+abbrev pub HasHeader : Table Kind → Type 0
+HasHeader table = AllByRecursion
+    (λ tag. row_at tag (all_rows table) ≡ Some (row Optional tag (kind_at tag))) carried_tags
+
+own_kind : (tag : ℕ) → is_own (kind_at tag) ≡ true
+own_kind tag = elim (tag == 97) as (λ b. is_own (if b then Flag else Filled) ≡ true) [
+  | true ↦ refl
+  | false ↦ refl
+]
 
 spells_own : (kind : ValueKind) (v : List ℕ) (tag : ℕ) (s : Spelling)
     → is_own kind ≡ true → spelling kind v ≡ s
@@ -69,19 +69,20 @@ spells_own kind v tag (Err fault) own e w b = absurd cc
 
 module _ (table : Table Kind) (fields : List Field) (good : first_fault judge table fields ≡ None)
     (clear : AllByRecursion (IsClearField judge) fields) where
-  head_own : (kind : ValueKind) (tag : ℕ) → is_own kind ≡ true → is_data_tag tag ≡ false
-      → row_at tag (all_rows table) ≡ Some (row Optional tag kind)
-      → IsOwn kind (value_at tag fields)
+  head_own : (tag : ℕ) → not (is_data_tag tag) ≡ true
+      → row_at tag (all_rows table) ≡ Some (row Optional tag (kind_at tag))
+      → IsOwn (kind_at tag) (value_at tag fields)
   unfolding judge
-  head_own kind tag own bare its =
+  head_own tag bare its =
+      let kind = kind_at tag in
       elim (value_at tag fields) as (λ value. value_at tag fields ≡ value → IsOwn kind value) [
         | None ↦ λ e. tt
         | Some v ↦ λ e.
             let g = held (IsGood judge table fields) tag fields v e
             (all_good judge table fields good) in
             let w = rw its at g.0 in let b = rw its at g.1 in (
-              spells_own kind v tag (spelling kind v) own refl w b,
-              held (IsClearField judge) tag fields v e clear bare,
+              spells_own kind v tag (spelling kind v) (own_kind tag) refl w b,
+              held (IsClearField judge) tag fields v e clear (not_true _ bare),
             )
       ] refl
 
@@ -89,15 +90,8 @@ module _ (table : Table Kind) (fields : List Field) (good : first_fault judge ta
   pub head_is_own : (msg_type : List ℕ) → IsType msg_type → HasHeader table
       → IsOwnHead msg_type fields
   unfolding is_data_tag spelling
-  head_is_own msg_type (OneByte byte other is) has =
-      let P : List ℕ → Type 0 = λ v. (spelling Filled v ≡ Ok (Some v)) × IsClear v in
-      record {
-        kind = subst P (sym is) (refl, grind (arith, nat_tests));
-        sender = head_own Filled 49 refl refl has.sender;
-        target = head_own Filled 56 refl refl has.target;
-        number = head_own Filled 34 refl refl has.number;
-        dup = head_own Filled 43 refl refl has.dup;
-        resend = head_own Flag 97 refl refl has.resend;
-        time = head_own Filled 52 refl refl has.time;
-        first_time = head_own Filled 122 refl refl has.first_time;
-      }
+  head_is_own msg_type (OneByte byte other is) has = record {
+    kind = subst (λ (v : List ℕ). IsOwn Filled (Some v)) (sym is) (refl, grind (arith, nat_tests));
+    carried = each_two (λ tag. not (is_data_tag tag) ≡ true) _ _ head_own carried_tags
+        (all_true (λ tag. not (is_data_tag tag)) carried_tags refl) has;
+  }
