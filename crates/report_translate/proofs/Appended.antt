@@ -5,15 +5,12 @@ use Rattle.std.specs.Prelude.{IfErr, OnOk, Result, Ok, Err}
 use Rattle.std.specs.Str.{bytes_eq}
 use Rattle.field_groups.specs.declared.fault.SplitFault.{SplitFault}
 use Rattle.field_groups.specs.Field.{Field}
-use Rattle.message_tables.specs.FirstFault.{message_in}
 use Rattle.message_tables.specs.Tables.{Message}
 use Rattle.order_meaning.specs.declared.fault.Fault.{Fault}
 use Rattle.order_meaning.specs.declared.fault.Fault.TheVariants.{NotSupported}
 use Rattle.order_meaning.specs.declared.fault.Lack.{Lack}
 use Rattle.order_meaning.specs.declared.fault.Lack.TheVariants as lacks
-use Rattle.row_values.specs.Kinds.{judge}
-use Rattle.rows_fix50.specs.Header.{completed}
-use Rattle.reports_fix50.specs.Message.{cancel_reject_table, message50, report_table}
+use Rattle.reports_fix50.specs.Message.{message50}
 use Rattle.reports_fix50.specs.Message.{report_table_of}
 use Rattle.report_rules.specs.Down.{IsGoodBy, LacksDown, PutsDown}
 use Rattle.report_rules.specs.Judged.{AreGood}
@@ -63,18 +60,13 @@ module _ (fields : List Field) (msg_type : List ℕ) (same : msg_type ≡ type_o
   is_good = subst (λ (t : List ℕ). IsGoodBy (report_table_of t) fields) (sym same) good
 
   read : (m : Message) × (report_message (type_of fields) fields None ≡ Ok m)
-  read = by (bytes_eq (type_of fields) (codes "8")) refl
-    where
-      by : (b : Bool) → bytes_eq (type_of fields) (codes "8") ≡ b
-          → (m : Message) × (report_message (type_of fields) fields None ≡ Ok m)
-      by true e = (
-        completed (message_in judge report_table fields),
-        read_8 (type_of fields) fields e good,
-      )
-      by false e = (
-        completed (message_in judge cancel_reject_table fields),
-        read_9 (type_of fields) fields e good,
-      )
+  read =
+      elim (bytes_eq (type_of fields) (codes "8")) as (λ b.
+      bytes_eq (type_of fields) (codes "8") ≡ b
+      → (m : Message) × (report_message (type_of fields) fields None ≡ Ok m)) [
+        | true ↦ λ e. (_, read_8 (type_of fields) fields e good)
+        | false ↦ λ e. (_, read_9 (type_of fields) fields e good)
+      ] refl
 
   pub appended : (before after : List ℕ) → PutsDown msg_type None fields before after
       → Appends down fields None before after

@@ -121,9 +121,7 @@ fault_of : (fields : List Field) (stopped : Option SplitFault) (fault : Fault)
     → report_message (type_of fields) fields stopped ≡ Err fault
     → RefusesCheck fields stopped (error_of_fault fault)
 fault_of fields stopped faults.NoMemory h = tt
-fault_of fields stopped (faults.Session tag reason) h = h
-fault_of fields stopped (faults.NoCounterpart tag) h = h
-fault_of fields stopped faults.NotSupported h = h
+fault_of fields stopped other h = h
 
 pub fault_is : (fields : List Field) (stopped : Option SplitFault) (fault : Fault)
     → IsCleanIf (report_table_of (type_of fields)) fields stopped (Err fault)
@@ -170,15 +168,13 @@ module _ (fields : List Field) (msg_type : List ℕ) (same : msg_type ≡ type_o
     pub refused : (r : Result (Unit {0}) TranslateError) → IfErr r (LacksAt fields)
         → IfErr r (RefusesCheck fields None)
     refused (Ok done) h = tt
-    refused (Err errors.NoMemory) h = absurd h
-    refused (Err errors.TooLong) h = absurd h
-    refused (Err (errors.Faulty fault)) h = absurd h
     refused (Err (errors.Lacking tag)) h = (
       h.0,
       completed (message_in judge report_table fields),
       are_8,
       type_lacks None (completed (message_in judge report_table fields)) refl h.1,
     )
+    refused (Err other) h = absurd h
 
   pub rejects : is_8 msg_type fields ≡ false → IsCheckedOf fields None
   rejects test = record {

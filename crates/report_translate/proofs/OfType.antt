@@ -120,9 +120,7 @@ module _ (msg_type : List ℕ) (fields : List Field) (stopped : Option SplitFaul
       → Gives says r x → y ≡ x → IsReadAs r y
   read_as says (Ok refusal) x y gives same = (says refusal, same ∙ gives)
   read_as says (Err faults.NoMemory) x y gives same = tt
-  read_as says (Err faults.NotSupported) x y gives same = same ∙ gives
-  read_as says (Err (faults.Session tag reason)) x y gives same = same ∙ gives
-  read_as says (Err (faults.NoCounterpart tag)) x y gives same = same ∙ gives
+  read_as says (Err other) x y gives same = same ∙ gives
 
   pub session : (side : Side) (says : Refusal → Message) (r : Result Refusal Fault)
       → bytes_eq msg_type (codes "3") ≡ true

@@ -27,11 +27,7 @@ module _ (side : Side) (body : List ℕ) (fields : List Field)
       by : (fault : Fault) → Tells fault (refusal_message side (type_of fields) fields stopped)
           → IsFaultyRefusal (refusal_message side) body (error_of_fault fault)
       by faults.NoMemory told = tt
-      by faults.NotSupported told =
-          record { fields = fields; stopped = stopped; split = split; read = told }
-      by (faults.Session tag reason) told =
-          record { fields = fields; stopped = stopped; split = split; read = told }
-      by (faults.NoCounterpart tag) told =
+      by other told =
           record { fields = fields; stopped = stopped; split = split; read = told }
 
   pub good : (x : Message) → refusal_message side (type_of fields) fields stopped ≡ Ok x

@@ -19,14 +19,6 @@ put_is f start (tag ∷ tags) =
     ∙ append_assoc start (body_of (f tag)) (body_of (flat_map f tags))
     ∙ ap (λ (bytes : List ℕ). start ++ bytes) (sym (body-append (f tag) (flat_map f tags)))
 
--- the header behind its type
-pub head_is : (fields : List Field) (old head type : List ℕ)
-    → head ≡ put (carried_field fields) (old ++ field_bytes (35, type)) carried_tags
-    → type ≡ type_of fields
-    → head ≡ put (carried_field fields) (old ++ field_bytes (35, type_of fields)) carried_tags
-head_is fields old head type h e =
-    h ∙ ap (λ (t : List ℕ). put (carried_field fields) (old ++ field_bytes (35, t)) carried_tags) e
-
 module _ (fields content : List Field) (old head up : List ℕ) (none : old ≡ [])
     (head_is : head ≡ put (carried_field fields) (old ++ field_bytes (35, type_of fields))
     carried_tags) (up_is : up ≡ head ++ body_of content) where

@@ -1,5 +1,5 @@
 -- The header and the content of a translation are split again into the fields that were written.
-use Rattle.std.proofs.Common.{◌≡◌, ◌≤◌, ℕ, List, [], ◌∷◌, length, Option, Some, None, true, refl}
+use Rattle.std.proofs.Common.{◌≡◌, ◌≤◌, ℕ, List, [], ◌∷◌, length, Some, None, true, refl}
 use Rattle.std.proofs.Common.{sym, subst, arith, length-append}
 use Rattle.std.specs.Prelude.{not, nat_le, ◌&&◌}
 use Rattle.std.specs.List.{AllByRecursion, flat_map, list_all}
@@ -11,7 +11,7 @@ use Rattle.field_groups.proofs.Plain.{plain_again}
 use Rattle.message_tables.specs.Tables.{Tag, value_at}
 use Rattle.message_tables.specs.Content.{cell_fields}
 use Rattle.row_values.specs.Kinds as row_kinds
-use Rattle.sound_laws.proofs.Each.{all_true, both, each_by, each_joined, each_whole, not_true}
+use Rattle.sound_laws.proofs.Each.{◌&◌, all_true, both, each_by, each_joined, each_whole, not_true}
 use Rattle.sound_laws.proofs.Good.{held}
 use Rattle.sound_laws.proofs.PlainFields.{is_good_tag, Plains, AreFew, plain_field, cell_length}
 use Rattle.sound_laws.proofs.PlainFields.{all_of, clear_fields}
@@ -21,18 +21,17 @@ use Rattle.translation.specs.Going.{IsType, One as OneByte}
 
 carried_plain : (tag : ℕ) (fields : List Field) → is_good_tag tag ≡ true
     → AllByRecursion (IsClearField row_kinds.judge) fields → Plains (carried_field fields tag)
-carried_plain tag fields good clear = by (value_at tag fields) refl
-  where
-    by : (value : Option (List ℕ))
-        → value_at tag fields ≡ value → Plains (cell_fields (Tag tag, value))
-    by None e = tt
-    by (Some text) e =
-        let a = both (nat_le 1 tag) (nat_le tag 999_999_999 && not (is_data_tag tag)) good in
-        let b = both (nat_le tag 999_999_999) (not (is_data_tag tag)) a.1 in (
-          plain_field tag text good (held (IsClearField row_kinds.judge)
-              tag fields text e clear (not_true (is_data_tag tag) b.1)),
-          tt,
-        )
+carried_plain tag fields good clear =
+    elim (value_at tag fields) as (λ value. value_at tag fields ≡ value
+    → Plains (cell_fields (Tag tag, value))) [
+      | None ↦ λ e. tt
+      | Some text ↦ λ e.
+          let a = both (nat_le 1 tag) (nat_le tag 999_999_999 && not (is_data_tag tag)) good in
+          let b = both (nat_le tag 999_999_999) (not (is_data_tag tag)) a.1 in
+          let bare = not_true (is_data_tag tag) b.1 in
+          plain_field tag text good
+          (held (IsClearField row_kinds.judge) tag fields text e clear bare) & tt
+    ] refl
 
 carried_all : (tags : List ℕ) (fields : List Field)
     → list_all is_good_tag tags ≡ true → AllByRecursion (IsClearField row_kinds.judge) fields →

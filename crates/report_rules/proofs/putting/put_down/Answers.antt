@@ -1,8 +1,5 @@
-use Rattle.std.proofs.Common.{refl, subst, sym}
-use Rattle.std.specs.Prelude.{IsTrue}
-use Rattle.message_tables.specs.Tables.{Table}
+use Rattle.std.proofs.Common.{ap, sym}
 use Rattle.reports_fix50.proofs.Few.{few_parties}
-use Rattle.row_values.specs.Kinds.{Kind}
 use Rattle.rule_rows.specs.Rows.{have_written_lines}
 use Rattle.report_rules.specs.CodeRules.{source_of}
 use Rattle.report_rules.proofs.PutDown.{good_eight, lacking, puts, reject_ruled, report_ruled}
@@ -13,53 +10,42 @@ read_lines-requires c = few_parties c.args.fields.now
     (good_eight c.args.msg_type.now c.args.fields.now c.requires (sym c.if-is_type.ensures))
 
 pub put_rules-requires : goal.put_rules-requires
-put_rules-requires c =
-    let P : Table Kind → Type 0 = λ t. IsTrue (have_written_lines t.items) in
-    subst P (sym c.execution_report.ensures) refl
+put_rules-requires c = ap (λ t. have_written_lines t.items) c.execution_report.ensures
 
 pub put_rules-requires-else-is_type : goal.put_rules-requires-else-is_type
 put_rules-requires-else-is_type c =
-    let P : Table Kind → Type 0 = λ t. IsTrue (have_written_lines t.items) in
-    subst P (sym c.cancel_reject.ensures) refl
+    ap (λ t. have_written_lines t.items) c.cancel_reject.ensures
 
 pub returns-in_ok-parties-clause-ok : goal.returns-in_ok-parties-clause-ok
 returns-in_ok-parties-clause-ok c =
     let s = source_of c.args.fields c.execution_report.result c.report_codes.result
     c.in_ok-parties.parties c.args.known in
-    puts c.args.msg_type.now s c.report_rules.result.now
-    (report_ruled c.args.msg_type.now s c.report_rules.result.now c.requires
+    puts _ s _ (report_ruled c.args.msg_type.now s c.report_rules.result.now c.requires
     (sym c.if-is_type.ensures) c.execution_report.ensures c.in_ok-parties.ensures
     c.report_codes.ensures c.report_rules.ensures)
-    c.put_rules.result c.args.out.now.items c.put_rules.new.out.items c.put_rules.ensures.said
-    c.put_rules.ensures.done
+    c.put_rules.result _ _ c.put_rules.ensures.said c.put_rules.ensures.done
 
 pub returns-in_ok-parties-clause-lack : goal.returns-in_ok-parties-clause-lack
 returns-in_ok-parties-clause-lack c =
     let s = source_of c.args.fields c.execution_report.result c.report_codes.result
     c.in_ok-parties.parties c.args.known in
-    lacking c.args.msg_type.now s c.report_rules.result.now
-    (report_ruled c.args.msg_type.now s c.report_rules.result.now c.requires
+    lacking _ s _ (report_ruled c.args.msg_type.now s c.report_rules.result.now c.requires
     (sym c.if-is_type.ensures) c.execution_report.ensures c.in_ok-parties.ensures
-    c.report_codes.ensures c.report_rules.ensures)
-    c.put_rules.result c.put_rules.ensures.lack
+    c.report_codes.ensures c.report_rules.ensures) c.put_rules.result c.put_rules.ensures.lack
 
 pub returns-else-is_type-clause-ok : goal.returns-else-is_type-clause-ok
 returns-else-is_type-clause-ok c =
     let s = source_of c.args.fields c.cancel_reject.result c.reject_codes.result c.new.result
     c.args.known in
-    puts c.args.msg_type.now s c.reject_rules.result.now
-    (reject_ruled c.args.msg_type.now s c.reject_rules.result.now c.requires
+    puts _ s _ (reject_ruled c.args.msg_type.now s c.reject_rules.result.now c.requires
     (sym c.if-is_type.ensures) c.cancel_reject.ensures c.reject_codes.ensures
-    c.reject_rules.ensures)
-    c.put_rules-else-is_type.result c.args.out.now.items c.put_rules-else-is_type.new.out.items
+    c.reject_rules.ensures) c.put_rules-else-is_type.result _ _
     c.put_rules-else-is_type.ensures.said c.put_rules-else-is_type.ensures.done
 
 pub returns-else-is_type-clause-lack : goal.returns-else-is_type-clause-lack
 returns-else-is_type-clause-lack c =
     let s = source_of c.args.fields c.cancel_reject.result c.reject_codes.result c.new.result
     c.args.known in
-    lacking c.args.msg_type.now s c.reject_rules.result.now
-    (reject_ruled c.args.msg_type.now s c.reject_rules.result.now c.requires
+    lacking _ s _ (reject_ruled c.args.msg_type.now s c.reject_rules.result.now c.requires
     (sym c.if-is_type.ensures) c.cancel_reject.ensures c.reject_codes.ensures
-    c.reject_rules.ensures)
-    c.put_rules-else-is_type.result c.put_rules-else-is_type.ensures.lack
+    c.reject_rules.ensures) c.put_rules-else-is_type.result c.put_rules-else-is_type.ensures.lack

@@ -28,10 +28,9 @@ returns-in_ok-parties-clause-ok c =
     let is = eight c.args.fields.now c.requires c.msg_type.result.now c.msg_type.ensures
     (sym c.if-is_type.ensures) in
     on_ok s report_table c.execution_report.ensures _
-    (known_report s c.in_ok-parties.ensures is.1 refl) (down_rules (Same 41))
-    c.report_rules.result.now c.report_rules.ensures down is.0
-    refl refl c.put_rules.result c.args.out.now.items c.put_rules.new.out.items
-    c.put_rules.ensures.said c.put_rules.ensures.done
+    (known_report s c.in_ok-parties.ensures is.1 refl) (down_rules (Same 41)) _
+    c.report_rules.ensures down is.0 refl refl c.put_rules.result _ _ c.put_rules.ensures.said
+    c.put_rules.ensures.done
 
 pub returns-in_ok-parties-clause-lack : goal.returns-in_ok-parties-clause-lack
 returns-in_ok-parties-clause-lack c =
@@ -39,9 +38,8 @@ returns-in_ok-parties-clause-lack c =
     let is = eight c.args.fields.now c.requires c.msg_type.result.now c.msg_type.ensures
     (sym c.if-is_type.ensures) in
     on_err s report_table c.execution_report.ensures _
-    (known_report s c.in_ok-parties.ensures is.1 refl) (down_rules (Same 41))
-    c.report_rules.result.now c.report_rules.ensures down is.0
-    refl refl c.put_rules.result c.put_rules.ensures.lack
+    (known_report s c.in_ok-parties.ensures is.1 refl) (down_rules (Same 41)) _
+    c.report_rules.ensures down is.0 refl refl c.put_rules.result c.put_rules.ensures.lack
 
 pub returns-else-is_type-clause-ok : goal.returns-else-is_type-clause-ok
 returns-else-is_type-clause-ok c =
@@ -49,10 +47,9 @@ returns-else-is_type-clause-ok c =
     let is = nine c.args.fields.now c.requires c.msg_type.result.now c.msg_type.ensures
     (sym c.if-is_type.ensures) in
     on_ok s cancel_reject_table c.cancel_reject.ensures _ (known_reject s is.1 refl)
-    (down_rules (By (Else 41 None))) c.reject_rules.result.now c.reject_rules.ensures down
-    is.0 refl refl c.put_rules-else-is_type.result
-    c.args.out.now.items c.put_rules-else-is_type.new.out.items
-    c.put_rules-else-is_type.ensures.said c.put_rules-else-is_type.ensures.done
+    (down_rules (By (Else 41 None))) _ c.reject_rules.ensures down is.0 refl refl
+    c.put_rules-else-is_type.result _ _ c.put_rules-else-is_type.ensures.said
+    c.put_rules-else-is_type.ensures.done
 
 pub returns-else-is_type-clause-lack : goal.returns-else-is_type-clause-lack
 returns-else-is_type-clause-lack c =
@@ -60,6 +57,5 @@ returns-else-is_type-clause-lack c =
     let is = nine c.args.fields.now c.requires c.msg_type.result.now c.msg_type.ensures
     (sym c.if-is_type.ensures) in
     on_err s cancel_reject_table c.cancel_reject.ensures _ (known_reject s is.1 refl)
-    (down_rules (By (Else 41 None))) c.reject_rules.result.now c.reject_rules.ensures down
-    is.0 refl refl c.put_rules-else-is_type.result
-    c.put_rules-else-is_type.ensures.lack
+    (down_rules (By (Else 41 None))) _ c.reject_rules.ensures down is.0 refl refl
+    c.put_rules-else-is_type.result c.put_rules-else-is_type.ensures.lack
