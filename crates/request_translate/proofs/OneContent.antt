@@ -131,12 +131,8 @@ abbrev flag_back : Bool → List ℕ
 flag_back is_yes = flag_text (record { yes = is_yes })
 
 flag_is : (f : FlagValue) → flag_back (flag_of (flag_text f)) ≡ flag_text f
-flag_is f = by f.yes
-  where
-    by : (yes : Bool) → flag_back (flag_of (flag_text (record { yes = yes })))
-        ≡ flag_text (record { yes = yes })
-    by true = refl
-    by false = refl
+flag_is f = elim f.yes as (λ yes. flag_back (flag_of (flag_text (record { yes = yes })))
+    ≡ flag_text (record { yes = yes })) [ true ↦ refl | false ↦ refl ]
 
 flag_form : (text : List ℕ) (r : Result FlagValue FieldFault)
     → verdict_of (spelt (λ _. text) r) ≡ Spells text → (x : FlagValue) × (r ≡ Ok x)
@@ -191,16 +187,15 @@ by_time : (code : ℕ) → IsBack code None → ((t : ℕ) → (t == 55) ≡ fal
     → (is_one_of (codes "12") code ≡ true → IsBack code (Some 55)) →
     (time : Option ℕ) → IsBeside code time → IsBack code time
 by_time code none other close None h = none
-by_time code none other close (Some t) h = by (t == 55) refl
-  where
-    by : (b : Bool) → (t == 55) ≡ b → IsBack code (Some t)
-    by true e =
-        let is : t ≡ 55 = eqb-true t 55 e in
-        let P : ℕ → Type 0 = λ x. IsBack code (Some x) in
-        let Q : ℕ → Type 0 =
-        λ x. (not (is_at_close (code_text x)) || is_one_of (codes "12") code) ≡ true in
-        subst P (sym is) (close (subst Q is h))
-    by false e = other t e
+by_time code none other close (Some t) h =
+    elim (t == 55) as (λ b. (t == 55) ≡ b → IsBack code (Some t)) [
+      | true ↦ λ e.
+          let is : t ≡ 55 = eqb-true t 55 e in
+          let Q : ℕ → Type 0 =
+          λ x. (not (is_at_close (code_text x)) || is_one_of (codes "12") code) ≡ true in
+          subst (λ (x : ℕ). IsBack code (Some x)) (sym is) (close (subst Q is h))
+      | false ↦ other t
+    ] refl
 
 codes_are_back : (code : ℕ) → is_one_of (codes "1234") code ≡ true
     → (time : Option ℕ) → IsBeside code time → IsBack code time

@@ -140,11 +140,10 @@ module _ (o : PlainOrder) where
 -- ---- it lacks nothing
 
 lacks_nothing : (o : PlainOrder) → lack42 (said42 o) ≡ None
-lacks_nothing o = by o.limit refl
-  where
-    by : (limit : Option (List ℕ)) → o.limit ≡ limit → lack42 (said42 o) ≡ None
-    by None l = rw l refl
-    by (Some price) l = rw l refl
+lacks_nothing o = elim o.limit as (λ limit. o.limit ≡ limit → lack42 (said42 o) ≡ None) [
+  | None ↦ λ l. rw l refl
+  | Some price ↦ λ l. rw l refl
+] refl
 
 -- ---- it is written field by field
 
@@ -199,23 +198,25 @@ form_is : {A : Type 0} (say : Result A FieldFault → Spelling) (text : List ℕ
     → ((fault : FieldFault) → say (Err fault) ≡ Ok (Some text) → ⊥)
     → (bytes : List ℕ) (form bound : Bool) (x : A)
     → say (judged bytes form bound x) ≡ Ok (Some text) → form ≡ true
-form_is {A = A} say text none bytes form bound x h = by (judged bytes form bound x) refl h
-  where
-    by : (r : Result A FieldFault) → judged bytes form bound x ≡ r → say r ≡ Ok (Some text)
-        → form ≡ true
-    by (Ok y) e h = (judged_ok bytes form bound x y e).form
-    by (Err fault) e h = absurd (none fault h)
+form_is say text none bytes form bound x h =
+    elim (judged bytes form bound x) as (λ r. judged bytes form bound x ≡ r
+    → say r ≡ Ok (Some text) → form ≡ true) [
+      | Ok y ↦ λ e h. (judged_ok bytes form bound x y e).form
+      | Err fault ↦ λ e h. absurd (none fault h)
+    ] refl h
 
 dec_length : (text : List ℕ) → is_dec_form text ≡ true → length text ≤ 128
 dec_length text h = let most = (both (nat_le (length text) 32) _ h).0 in grind (arith, nat_tests)
 
 stamp_length : (text : List ℕ) → is_stamp_form text ≡ true → length text ≤ 128
-stamp_length text h = by (has_pattern (codes "YYYYMMDD-HH:MM:SS") text) refl h
-  where
-    by : (whole : Bool) → has_pattern (codes "YYYYMMDD-HH:MM:SS") text ≡ whole
-        → (whole || has_pattern (codes "YYYYMMDD-HH:MM:SS.sss") text) ≡ true → length text ≤ 128
-    by true e h = omega (arith, length-has_pattern (codes "YYYYMMDD-HH:MM:SS") text e)
-    by false e h = omega (arith, length-has_pattern (codes "YYYYMMDD-HH:MM:SS.sss") text h)
+stamp_length text h =
+    let long = codes "YYYYMMDD-HH:MM:SS.sss" in
+    elim (has_pattern (codes "YYYYMMDD-HH:MM:SS") text) as (λ b.
+    has_pattern (codes "YYYYMMDD-HH:MM:SS") text ≡ b → (b || has_pattern long text) ≡ true
+    → length text ≤ 128) [
+      | true ↦ λ e h. omega (arith, length-has_pattern (codes "YYYYMMDD-HH:MM:SS") text e)
+      | false ↦ λ e h. omega (arith, length-has_pattern long text h)
+    ] refl h
 
 -- the kinds of its values, each of at most 128 bytes
 abbrev is_short : ValueKind → Bool
@@ -230,13 +231,13 @@ value_length : (kind : ValueKind) (text : List ℕ) → is_short kind ≡ true
     → IsSpelled kind text → length text ≤ 128
 unfolding spelling
 value_length kind [] is h = omega arith
-value_length Id (b ∷ bs) is h = by (nat_le (length (b ∷ bs)) 128) refl h
-  where
-    by : (fits : Bool) → nat_le (length (b ∷ bs)) 128 ≡ fits
-        → (if fits then Ok (Some (b ∷ bs)) else Err Range) ≡ Ok (Some (b ∷ bs))
-        → length (b ∷ bs) ≤ 128
-    by true e h = grind (arith, nat_tests)
-    by false e h = absurd cc
+value_length Id (b ∷ bs) is h =
+    elim (nat_le (length (b ∷ bs)) 128) as (λ fits. nat_le (length (b ∷ bs)) 128 ≡ fits
+    → (if fits then Ok (Some (b ∷ bs)) else Err Range) ≡ Ok (Some (b ∷ bs))
+    → length (b ∷ bs) ≤ 128) [
+      | true ↦ λ e h. grind (arith, nat_tests)
+      | false ↦ λ e h. absurd cc
+    ] refl h
 value_length (Code listed) (b ∷ []) is h = omega arith
 value_length (Code listed) (b ∷ c ∷ bs) is h = absurd cc
 value_length Qty (b ∷ bs) is h = dec_length (b ∷ bs)
