@@ -1,6 +1,6 @@
 -- What the code appends is the content of the message that goes down.
 use Rattle.std.proofs.Common.{◌≡◌, ℕ, List, [], ◌∷◌, ◌++◌, Option, Some, None, refl, sym, ap}
-use Rattle.std.proofs.Common.{Bool, true, false, if◌then◌else◌, subst, ◌∙◌, codes}
+use Rattle.std.proofs.Common.{true, false, if◌then◌else◌, subst, ◌∙◌, codes}
 use Rattle.std.specs.Str.{bytes_eq}
 use Rattle.std.proofs.lemmas.Slice.Eq.{bytes_eq-Decides}
 use Rattle.std.specs.Prelude.{IfErr, OnOk, Result, Ok, Err}
@@ -123,10 +123,7 @@ module _ (msg_type : List ℕ) (fields : List Field) where
   module _ (good : IsGoodBy (report_table_of msg_type) fields) where
     pub good_eight : bytes_eq msg_type (codes "8") ≡ true
         → first_fault judge report_table fields ≡ None
-    good_eight test =
-        let P : Bool → Type 0 = λ b. IsGoodBy (if b then Some report_table else
-        (if bytes_eq msg_type (codes "9") then Some cancel_reject_table else None)) fields in
-        subst P test good
+    good_eight test = rw test at good
 
     pub record IsNine : Type 0 where
       pub is : codes "9" ≡ msg_type
@@ -134,14 +131,12 @@ module _ (msg_type : List ℕ) (fields : List Field) where
 
     pub nine : bytes_eq msg_type (codes "8") ≡ false → IsNine
     nine test =
-        let P : Bool → Type 0 = λ b. IsGoodBy (if b then Some report_table else
-        (if bytes_eq msg_type (codes "9") then Some cancel_reject_table else None)) fields in
         elim (bytes_eq msg_type (codes "9")) as (λ b. bytes_eq msg_type (codes "9") ≡ b
         → IsGoodBy (if b then Some cancel_reject_table else None) fields → IsNine) [
           | true ↦ λ e h.
               record { is = sym ((bytes_eq-Decides msg_type (codes "9")).0 e); none = h }
           | false ↦ λ e h. absurd h
-        ] refl (subst P test good)
+        ] refl (rw test at good)
 
 -- ---- the two reports
 
