@@ -57,7 +57,7 @@ module _ (fields : List Field) (m : Message)
 module _ (fields : List Field) (msg_type : List ℕ) (same : msg_type ≡ type_of fields)
     (good : IsGoodBy (report_table_of (type_of fields)) fields) where
   pub is_good : IsGoodBy (report_table_of msg_type) fields
-  is_good = subst (λ (t : List ℕ). IsGoodBy (report_table_of t) fields) (sym same) good
+  is_good = rw same good
 
   read : (m : Message) × (report_message (type_of fields) fields None ≡ Ok m)
   read =
@@ -70,16 +70,13 @@ module _ (fields : List Field) (msg_type : List ℕ) (same : msg_type ≡ type_o
 
   pub appended : (before after : List ℕ) → PutsDown msg_type None fields before after
       → Appends down fields None before after
-  appended before after h =
-      let P : List ℕ → Type 0 = λ t. PutsDown t None fields before after in
-      appends fields read.0 read.1 before after (subst P same h)
+  appended before after h = appends fields read.0 read.1 before after (rw same at h)
 
   pub refused : (lack : Lack) (error : TranslateError) → error ≡ error_of_lack lack
       → LacksDown msg_type None fields lack → StayBack down fields None error
   refused lack error is h =
-      let P : List ℕ → Type 0 = λ t. LacksDown t None fields lack in
       let Q : TranslateError → Type 0 = λ e. StayBack down fields None e in
-      subst Q (sym is) (refuses fields read.0 read.1 lack (subst P same h))
+      subst Q (sym is) (refuses fields read.0 read.1 lack (rw same at h))
 
 pub ruleset of_put = (is_good, appended, refused)
 

@@ -128,8 +128,7 @@ module _ (fields : List Field) (good : AreFields None fields) (m : Message)
   -- the type that is carried
   pub down_type : IsType (type_of (head_down fields))
   down_type =
-      let is = type_is (type_of fields) fields None m e in
-      let P : List ℕ → Type 0 = λ t. IsType t in subst P (sym (type_down fields is)) is
+      let is = type_is (type_of fields) fields None m e in rw (type_down fields is) is
 
   -- a sound message is read again behind the header that is carried
   pub behind_head : (table50 : Table Kind) (known : List ℕ) (letter : ℕ) (items : List (Item Kind))

@@ -1,6 +1,6 @@
 -- What fields at no fault are, by the table of their type: a report, and whether it goes down.
 use Rattle.std.proofs.Common.{◌≡◌, ℕ, List, Option, Some, None, Bool, true, false, not, refl, ◌∙◌}
-use Rattle.std.proofs.Common.{codes, subst, sym, ap}
+use Rattle.std.proofs.Common.{codes, sym, ap}
 use Rattle.std.specs.Prelude.{IsSome, IfSome, IfErr, OnOk, Result, Ok, Err, is_some, if◌then◌else◌}
 use Rattle.std.specs.Borrow.{Bor}
 use Rattle.std.specs.Str.{bytes_eq}
@@ -137,15 +137,11 @@ pub ruleset judged = (good_is, fault_is)
 module _ (fields : List Field) (msg_type : List ℕ) (same : msg_type ≡ type_of fields)
     (good : IsGoodBy (report_table_of (type_of fields)) fields) where
   good_by : IsGoodBy (report_table_of msg_type) fields
-  good_by =
-      let P : List ℕ → Type 0 = λ m. IsGoodBy (report_table_of m) fields in
-      subst P (sym same) good
+  good_by = rw same good
 
   are_read : (message : Message) → report_message msg_type fields None ≡ Ok message
       → AreRead down fields None message
-  are_read message is =
-      let P : List ℕ → Type 0 = λ m. report_message m fields None ≡ Ok message in
-      record { whole = refl; read = subst P same is }
+  are_read message is = record { whole = refl; read = rw same at is }
 
   module _ (test : is_8 msg_type fields ≡ true) where
     are_8 : AreRead down fields None (completed (message_in judge report_table fields))
@@ -192,17 +188,13 @@ pub ruleset by_type = (says_type, checked, refused, rejects)
 pub of_good : (fields good : List Field) (stopped : Option SplitFault)
     → AreGood (report_table_of (type_of fields)) fields stopped good
     → IsGoodBy (report_table_of (type_of good)) good
-of_good fields good stopped are = let P : List Field → Type 0 =
-    λ f. IsGoodBy (report_table_of (type_of f)) f in subst P (sym are.same) are.none
+of_good fields good stopped are = rw are.same are.none
 
 pub checked_if : (fields good : List Field) (stopped : Option SplitFault)
     (r : Result (Unit {0}) TranslateError)
     → AreGood (report_table_of (type_of fields)) fields stopped good
     → OnOk r (IsCheckedOf good None) → OnOk r (IsCheckedOf fields stopped)
-checked_if fields good stopped (Ok done) are h =
-    let P : List Field → Type 0 = λ f. IsCheckedOf f None in
-    let Q : Option SplitFault → Type 0 = λ s. IsCheckedOf fields s in
-    subst Q (sym are.whole) (subst P are.same h)
+checked_if fields good stopped (Ok done) are h = rw are.whole (rw are.same at h)
 checked_if fields good stopped (Err error) are h = tt
 
 pub refused_if : (fields good : List Field) (stopped : Option SplitFault)
@@ -210,9 +202,6 @@ pub refused_if : (fields good : List Field) (stopped : Option SplitFault)
     → AreGood (report_table_of (type_of fields)) fields stopped good
     → IfErr r (RefusesCheck good None) → IfErr r (RefusesCheck fields stopped)
 refused_if fields good stopped (Ok done) are h = tt
-refused_if fields good stopped (Err error) are h =
-    let P : List Field → Type 0 = λ f. RefusesCheck f None error in
-    let Q : Option SplitFault → Type 0 = λ s. RefusesCheck fields s error in
-    subst Q (sym are.whole) (subst P are.same h)
+refused_if fields good stopped (Err error) are h = rw are.whole (rw are.same at h)
 
 pub ruleset of_judged = (of_good, checked_if, refused_if)

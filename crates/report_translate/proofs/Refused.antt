@@ -34,9 +34,6 @@ module _ (side : Side) (body : List ℕ) (fields : List Field)
       → IsGoodRefusal (refusal_message side) body
   good x is =
       let none = whole_refusal (type_of fields) fields stopped side x is in
-      let P : Option SplitFault → Type 0 = λ s. SplitsInto body fields s in
-      let Q : Option SplitFault → Type 0 =
-      λ s. refusal_message side (type_of fields) fields s ≡ Ok x in
-      record { fields = fields; message = x; split = subst P none split; read = subst Q none is }
+      record { fields = fields; message = x; split = rw none at split; read = rw none at is }
 
 pub ruleset judged = (good, faulty)

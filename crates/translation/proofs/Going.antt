@@ -66,9 +66,7 @@ module _ (d : Direction) where
 
     module _ (body : List ℕ) (split : SplitsInto body fields stopped) where
       abbrev pub is_read : (m : Message) → AreRead d fields stopped m → IsRead d body fields
-      is_read m h =
-          let P : Option SplitFault → Type 0 = λ s. SplitsInto body fields s in
-          record { message = m; split = subst P h.whole split; read = h.read }
+      is_read m h = record { message = m; split = rw h.whole at split; read = h.read }
 
       module _ (fair : IsFair d) where
         keeps : (gone : AreGone d fields stopped) → Keeps d fields gone.m gone.w
@@ -83,9 +81,8 @@ module _ (d : Direction) where
         }
 
         pub can_be_written : (other : List ℕ) → IsOtherOf d fields stopped other → IsWritable other
-        can_be_written other is =
-            let P : List ℕ → Type 0 = λ bytes. IsWritable bytes in
-            subst P (sym is.written.bytes) (writable (type_of (d.head fields))
+        can_be_written other is = subst IsWritable (sym is.written.bytes)
+            (writable (type_of (d.head fields))
             (carried (d.head fields) ++ d.content is.gone.m is.gone.w) (keeps is.gone).typed)
 
         pub translation : (other : List ℕ) → IsOtherOf d fields stopped other

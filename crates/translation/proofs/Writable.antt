@@ -1,6 +1,6 @@
 -- The body of a translation can be written as a frame.
 use Rattle.std.proofs.Common.{◌≡◌, get_or, suc, ◌-◌, append-nil, ℕ, ◌≤◌, List, [], ◌∷◌, ◌++◌}
-use Rattle.std.proofs.Common.{length, true, refl, ap, ◌∙◌, subst, sym, arith}
+use Rattle.std.proofs.Common.{length, true, refl, ap, ◌∙◌, arith}
 use Rattle.std.specs.Fmt.{digits, decimal}
 use Rattle.std.specs.Str.{bytes_eq}
 use Rattle.std.proofs.lemmas.List.{length-append}
@@ -50,6 +50,4 @@ is_byte msg_type byte other e = One byte other ((bytes_eq-Decides msg_type (byte
 
 pub writable : (msg_type : List ℕ) (fields : List Field)
     → IsType msg_type → IsWritable (body_of ((35, msg_type) ∷ fields))
-writable msg_type fields (One byte other is) =
-    let P : List ℕ → Type 0 = λ t. IsWritable (body_of ((35, t) ∷ fields))
-    in subst P (sym is) (one_byte byte fields other)
+writable msg_type fields (One byte other is) = rw is (one_byte byte fields other)
