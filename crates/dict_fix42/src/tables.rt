@@ -8,24 +8,13 @@ ghost use Rattle.dict_fix42.specs.Requests.{status_request};
 ghost use Rattle.row_values.specs.CodeKinds.{kind_of};
 
 use message_tables::Need::{Optional, Required, When};
-use message_tables::{Item, Row, Table};
+use message_tables::{Item, Table, one, table};
 use row_values::Kind::{DayOf, Value};
 use row_values::{ALLOCS, Kind, SESSIONS};
 use rows_fix42::{HAS_DAY, HEADER};
 use value_kinds::ValueKind::{
     Code, Codes, Currency, Day, Flag, Id, MonthYear, OneByte, Price, Qty, Stamp, Text, Word,
 };
-
-/// A row: the tag of its field, the kind of its values, and whether each message says it.
-macro_rules! one {
-    ($tag:literal, $kind:expr, $need:expr) => {
-        Item::One(Row {
-            tag: $tag,
-            kind: $kind,
-            need: $need,
-        })
-    };
-}
 
 /// The items of New Order - Single (D) and of Order Cancel/Replace Request (G), in the order of
 /// writing; the request has the items that are given behind ClOrdID(11).
@@ -127,29 +116,17 @@ const STATUS_REQUEST: [Item<Kind>; 14] = [
     one!(54, Value(Code(b"123456")), Required), // Side
 ];
 
-/// A table of requests.
-macro_rules! table {
-    ($letter:literal, $items:expr) => {
-        Table {
-            letter: $letter,
-            header: &HEADER,
-            items: &$items,
-            strict: true,
-        }
-    };
-}
-
 /// The table of New Order - Single.
-static NEW_ORDER_TABLE: Table<Kind> = table!(b'D', NEW_ORDER);
+static NEW_ORDER_TABLE: Table<Kind> = table!(b'D', HEADER, NEW_ORDER, true);
 
 /// The table of Order Cancel Request.
-static CANCEL_REQUEST_TABLE: Table<Kind> = table!(b'F', CANCEL_REQUEST);
+static CANCEL_REQUEST_TABLE: Table<Kind> = table!(b'F', HEADER, CANCEL_REQUEST, true);
 
 /// The table of Order Cancel/Replace Request.
-static REPLACE_REQUEST_TABLE: Table<Kind> = table!(b'G', REPLACE_REQUEST);
+static REPLACE_REQUEST_TABLE: Table<Kind> = table!(b'G', HEADER, REPLACE_REQUEST, true);
 
 /// The table of Order Status Request.
-static STATUS_REQUEST_TABLE: Table<Kind> = table!(b'H', STATUS_REQUEST);
+static STATUS_REQUEST_TABLE: Table<Kind> = table!(b'H', HEADER, STATUS_REQUEST, true);
 
 /// The table of New Order - Single.
 pub(crate) fn new_order() -> &'static Table<Kind>

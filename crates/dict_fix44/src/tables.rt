@@ -13,7 +13,7 @@ ghost use Rattle.row_values.specs.CodeKinds.{kind_of};
 use field_groups::is_type;
 use first_faults::Indexed;
 use message_tables::Need::{Optional, Required};
-use message_tables::{Item, Row, Table};
+use message_tables::{Item, Table, one, table};
 use row_values::Kind::{MonthBeside, Value};
 use row_values::{ALLOCS, Kind, PARTIES, SESSIONS};
 use rows_fix42::HEADER;
@@ -21,29 +21,6 @@ use std::marker::Model;
 use value_kinds::ValueKind::{
     Code, Codes, Currency, Day, Flag, Id, Number, OneByte, Price, Qty, Stamp, Text, Word,
 };
-
-/// A row: the tag of its field, the kind of its values, and whether each message says it.
-macro_rules! one {
-    ($tag:literal, $kind:expr, $need:expr) => {
-        Item::One(Row {
-            tag: $tag,
-            kind: $kind,
-            need: $need,
-        })
-    };
-}
-
-/// The table of a letter: its items, and whether a field of no row is outside the profile.
-macro_rules! table {
-    ($letter:literal, $items:ident, $strict:literal) => {
-        Table {
-            letter: $letter,
-            header: &HEADER,
-            items: &$items,
-            strict: $strict,
-        }
-    };
-}
 
 /// The items of New Order - Single (D) and of Order Cancel/Replace Request (G), in the order of
 /// writing; the request has the items that are given behind ClOrdID(11).
@@ -149,16 +126,16 @@ const STATUS_REQUEST: [Item<Kind>; 15] = [
 ];
 
 /// The table of New Order - Single.
-static NEW_ORDER_TABLE: Table<Kind> = table!(b'D', NEW_ORDER, true);
+static NEW_ORDER_TABLE: Table<Kind> = table!(b'D', HEADER, NEW_ORDER, true);
 
 /// The table of Order Cancel Request.
-static CANCEL_REQUEST_TABLE: Table<Kind> = table!(b'F', CANCEL_REQUEST, true);
+static CANCEL_REQUEST_TABLE: Table<Kind> = table!(b'F', HEADER, CANCEL_REQUEST, true);
 
 /// The table of Order Cancel/Replace Request.
-static REPLACE_REQUEST_TABLE: Table<Kind> = table!(b'G', REPLACE_REQUEST, true);
+static REPLACE_REQUEST_TABLE: Table<Kind> = table!(b'G', HEADER, REPLACE_REQUEST, true);
 
 /// The table of Order Status Request.
-static STATUS_REQUEST_TABLE: Table<Kind> = table!(b'H', STATUS_REQUEST, true);
+static STATUS_REQUEST_TABLE: Table<Kind> = table!(b'H', HEADER, STATUS_REQUEST, true);
 
 /// The table of New Order - Single.
 fn new_order() -> &'static Table<Kind>
@@ -263,10 +240,10 @@ const BUSINESS_REJECT: [Item<Kind>; 5] = [
 ];
 
 /// The table of Reject.
-static SESSION_REJECT_TABLE: Table<Kind> = table!(b'3', SESSION_REJECT, false);
+static SESSION_REJECT_TABLE: Table<Kind> = table!(b'3', HEADER, SESSION_REJECT, false);
 
 /// The table of Business Message Reject.
-static BUSINESS_REJECT_TABLE: Table<Kind> = table!(b'j', BUSINESS_REJECT, false);
+static BUSINESS_REJECT_TABLE: Table<Kind> = table!(b'j', HEADER, BUSINESS_REJECT, false);
 
 /// The table of Reject.
 fn session_reject() -> &'static Table<Kind>

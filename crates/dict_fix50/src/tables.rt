@@ -8,24 +8,13 @@ ghost use Rattle.dict_fix50.specs.Requests.{cancel_request, new_order, replace_r
 ghost use Rattle.dict_fix50.specs.Requests.{status_request};
 
 use message_tables::Need::{Lenient, Optional, Required};
-use message_tables::{Item, Row, Table};
+use message_tables::{Item, Table, one, table};
 use row_values::Kind::{Byte, MonthBeside, TimeBeside, Value};
 use row_values::{ALLOCS, Kind, PARTIES, SESSIONS};
 use rows_fix50::HEADER;
 use value_kinds::ValueKind::{
     Code, Codes, Currency, Day, FineStamp, Flag, Id, Price, Qty, Text, Word,
 };
-
-/// A row: the tag of its field, the kind of its values, and whether each message says it.
-macro_rules! one {
-    ($tag:literal, $kind:expr, $need:expr) => {
-        Item::One(Row {
-            tag: $tag,
-            kind: $kind,
-            need: $need,
-        })
-    };
-}
 
 /// The items of New Order - Single (D) and of Order Cancel/Replace Request (G), in the order of
 /// writing; the request has the items that are given behind ClOrdID(11).
@@ -130,29 +119,17 @@ const STATUS_REQUEST: [Item<Kind>; 15] = [
     one!(54, Value(Code(b"123456")), Required), // Side
 ];
 
-/// A table of requests.
-macro_rules! table {
-    ($letter:literal, $items:expr) => {
-        Table {
-            letter: $letter,
-            header: &HEADER,
-            items: &$items,
-            strict: false,
-        }
-    };
-}
-
 /// The table of New Order - Single.
-static NEW_ORDER_TABLE: Table<Kind> = table!(b'D', NEW_ORDER);
+static NEW_ORDER_TABLE: Table<Kind> = table!(b'D', HEADER, NEW_ORDER, false);
 
 /// The table of Order Cancel Request.
-static CANCEL_REQUEST_TABLE: Table<Kind> = table!(b'F', CANCEL_REQUEST);
+static CANCEL_REQUEST_TABLE: Table<Kind> = table!(b'F', HEADER, CANCEL_REQUEST, false);
 
 /// The table of Order Cancel/Replace Request.
-static REPLACE_REQUEST_TABLE: Table<Kind> = table!(b'G', REPLACE_REQUEST);
+static REPLACE_REQUEST_TABLE: Table<Kind> = table!(b'G', HEADER, REPLACE_REQUEST, false);
 
 /// The table of Order Status Request.
-static STATUS_REQUEST_TABLE: Table<Kind> = table!(b'H', STATUS_REQUEST);
+static STATUS_REQUEST_TABLE: Table<Kind> = table!(b'H', HEADER, STATUS_REQUEST, false);
 
 /// The table of New Order - Single.
 pub(crate) fn new_order() -> &'static Table<Kind>

@@ -6,6 +6,7 @@ mod group_lines;
 mod group_stage;
 pub mod laws;
 mod lookup;
+mod macros;
 mod stages;
 mod table;
 mod table_fault;

@@ -9,24 +9,13 @@ ghost use Rattle.reports_fix42.specs.Reports.{contras};
 ghost use Rattle.row_values.specs.CodeKinds.{kind_of};
 
 use message_tables::Need::{Optional, Required, When};
-use message_tables::{Item, RepeatingGroup, Row, Table, Test};
+use message_tables::{Item, RepeatingGroup, Table, Test, one, table};
 use row_values::Kind::{DayOf, Value};
 use row_values::{CONTRA_ROWS, Kind};
 use rows_fix42::{HAS_DAY, HEADER};
 use value_kinds::ValueKind::{
     Code, Currency, Day, Id, MonthYear, Number, Price, Qty, Reason, Stamp, Text, Word,
 };
-
-/// A row: the tag of its field, the kind of its values, and whether each message says it.
-macro_rules! one {
-    ($tag:literal, $kind:expr, $need:expr) => {
-        Item::One(Row {
-            tag: $tag,
-            kind: $kind,
-            need: $need,
-        })
-    };
-}
 
 /// ExecTransType(20) is Cancel or Correct.
 const IS_ABOUT_ANOTHER: &[&[Test]] = &[&[Test::Is(20, b"12")]];
@@ -134,36 +123,16 @@ const BUSINESS_REJECT: [Item<Kind>; 5] = [
 ];
 
 /// The table of Execution Report.
-static EXECUTION_REPORT_TABLE: Table<Kind> = Table {
-    letter: b'8',
-    header: &HEADER,
-    items: &EXECUTION_REPORT,
-    strict: true,
-};
+static EXECUTION_REPORT_TABLE: Table<Kind> = table!(b'8', HEADER, EXECUTION_REPORT, true);
 
 /// The table of Order Cancel Reject.
-static CANCEL_REJECT_TABLE: Table<Kind> = Table {
-    letter: b'9',
-    header: &HEADER,
-    items: &CANCEL_REJECT,
-    strict: true,
-};
+static CANCEL_REJECT_TABLE: Table<Kind> = table!(b'9', HEADER, CANCEL_REJECT, true);
 
 /// The table of Reject; other fields are passed over.
-static SESSION_REJECT_TABLE: Table<Kind> = Table {
-    letter: b'3',
-    header: &HEADER,
-    items: &SESSION_REJECT,
-    strict: false,
-};
+static SESSION_REJECT_TABLE: Table<Kind> = table!(b'3', HEADER, SESSION_REJECT, false);
 
 /// The table of Business Message Reject; other fields are passed over.
-static BUSINESS_REJECT_TABLE: Table<Kind> = Table {
-    letter: b'j',
-    header: &HEADER,
-    items: &BUSINESS_REJECT,
-    strict: false,
-};
+static BUSINESS_REJECT_TABLE: Table<Kind> = table!(b'j', HEADER, BUSINESS_REJECT, false);
 
 /// NoContraBrokers(382), as an execution report has it.
 pub(crate) fn contra_group() -> &'static RepeatingGroup<Kind>

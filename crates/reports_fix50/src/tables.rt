@@ -7,7 +7,7 @@ ghost use Rattle.reports_fix50.specs.Message.{business_reject_table, cancel_reje
 ghost use Rattle.reports_fix50.specs.Message.{report_table, session_reject_table};
 
 use message_tables::Need::{Lenient, Optional, Required, When};
-use message_tables::{Item, Need, Row, Table, Test};
+use message_tables::{Item, Need, Table, Test, one, table};
 use row_values::Kind::{MonthBeside, TimeBeside, Value};
 use row_values::{CONTRAS, Kind, PARTIES};
 use rows_fix50::HEADER;
@@ -26,17 +26,6 @@ const WHERE_TRADE: Need = When(&[&[Test::Is(150, b"FG")]]);
 
 /// What a correction and a bust say.
 const WHERE_OF_ANOTHER: Need = When(&[&[Test::Is(150, b"GH")]]);
-
-/// A row: the tag of its field, the kind of its values, and whether each message says it.
-macro_rules! one {
-    ($tag:literal, $kind:expr, $need:expr) => {
-        Item::One(Row {
-            tag: $tag,
-            kind: $kind,
-            need: $need,
-        })
-    };
-}
 
 /// Execution Report (8), in the order of writing.
 #[rattlefmt::skip]
@@ -126,36 +115,16 @@ const BUSINESS_REJECT: [Item<Kind>; 5] = [
 ];
 
 /// The table of Execution Report.
-static EXECUTION_REPORT_TABLE: Table<Kind> = Table {
-    letter: b'8',
-    header: &HEADER,
-    items: &EXECUTION_REPORT,
-    strict: false,
-};
+static EXECUTION_REPORT_TABLE: Table<Kind> = table!(b'8', HEADER, EXECUTION_REPORT, false);
 
 /// The table of Order Cancel Reject.
-static CANCEL_REJECT_TABLE: Table<Kind> = Table {
-    letter: b'9',
-    header: &HEADER,
-    items: &CANCEL_REJECT,
-    strict: false,
-};
+static CANCEL_REJECT_TABLE: Table<Kind> = table!(b'9', HEADER, CANCEL_REJECT, false);
 
 /// The table of Reject.
-static SESSION_REJECT_TABLE: Table<Kind> = Table {
-    letter: b'3',
-    header: &HEADER,
-    items: &SESSION_REJECT,
-    strict: false,
-};
+static SESSION_REJECT_TABLE: Table<Kind> = table!(b'3', HEADER, SESSION_REJECT, false);
 
 /// The table of Business Message Reject.
-static BUSINESS_REJECT_TABLE: Table<Kind> = Table {
-    letter: b'j',
-    header: &HEADER,
-    items: &BUSINESS_REJECT,
-    strict: false,
-};
+static BUSINESS_REJECT_TABLE: Table<Kind> = table!(b'j', HEADER, BUSINESS_REJECT, false);
 
 /// The table of Execution Report(8).
 pub fn execution_report() -> &'static Table<Kind>

@@ -1,21 +1,9 @@
 //! The standard header of FIX 4.2, as the code has it.
 
-use message_tables::Need::Optional;
-use message_tables::{Row, Test};
+use message_tables::{Row, Test, row};
 use row_values::Kind;
 use row_values::Kind::Value;
 use value_kinds::ValueKind::{Filled, Flag};
-
-/// A row: the tag of its field, and the kind of its values.
-macro_rules! row {
-    ($tag:literal, $kind:expr) => {
-        Row {
-            tag: $tag,
-            kind: $kind,
-            need: Optional,
-        }
-    };
-}
 
 /// The standard header.
 #[rattlefmt::skip]

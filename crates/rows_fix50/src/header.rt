@@ -1,21 +1,9 @@
 //! The standard header of FIXT 1.1, as the code has it.
 
-use message_tables::Need::Optional;
-use message_tables::Row;
+use message_tables::{Row, row};
 use row_values::Kind;
 use row_values::Kind::{Value, Version};
 use value_kinds::ValueKind::{Filled, Flag};
-
-/// A row: the tag of its field, and the kind of its values.
-macro_rules! row {
-    ($tag:literal, $kind:expr) => {
-        Row {
-            tag: $tag,
-            kind: $kind,
-            need: Optional,
-        }
-    };
-}
 
 /// The standard header.
 #[rattlefmt::skip]
