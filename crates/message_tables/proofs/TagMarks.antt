@@ -1,9 +1,10 @@
 -- Marks of tags, by their remainders by 512.
 use Rattle.std.proofs.Common.{◌≡◌, ℕ, zero, suc, ◌+◌, ◌<◌, Bool, true, false, eqb, List, [], ◌∷◌}
 use Rattle.std.proofs.Common.{◌++◌, length, get_or, take, map, replicate, refl, sym, ap, ◌∙◌, arith}
-use Rattle.std.specs.Prelude.{◌%◌, ◌||◌}
+use Rattle.std.specs.Prelude.{◌%◌, ◌||◌, ◌==◌}
+use Rattle.std.proofs.lemmas.List.Folds.{list_any-append}
 use Rattle.std.proofs.Math.ListN.{set}
-use Rattle.std.specs.List.{flat_map}
+use Rattle.std.specs.List.{flat_map, list_any}
 use Rattle.std.proofs.lemmas.Grind.{flat_map-append}
 use Rattle.std.proofs.lemmas.List.{append-nil, get_or-set_same, length-set, map_more, take_more}
 use Rattle.std.proofs.lemmas.Nat.{mod_below}
@@ -11,10 +12,15 @@ use Rattle.std.proofs.lemmas.Bool.Decides.{nat_tests}
 use Rattle.message_tables.specs.declared.table.Row.{Row as CodeRow}
 use Rattle.message_tables.specs.declared.table.Item.{Item as CodeItem}
 use Rattle.message_tables.specs.declared.table.Table.{Table as CodeTable}
-use Rattle.message_tables.specs.Tables.{Table, is_one_of, tags_of}
-use Rattle.message_tables.specs.FirstFault.{once_in, once_of}
+use Rattle.message_tables.specs.declared.table.RepeatingGroup.{RepeatingGroup as CodeGroup}
+use Rattle.message_tables.specs.declared.table.Item.TheVariants as items
+use Rattle.message_tables.specs.Tables.{Item, One, Party, Lines, Table, is_one_of, tags_in}
+use Rattle.message_tables.specs.Tables.{tags_of}
+use Rattle.message_tables.specs.FirstFault.{group_tags_of, is_of_group, once_in}
+use Rattle.message_tables.specs.FirstFault.{once_of}
 use Rattle.message_tables.specs.CodeTables.{item_of, row_of, table_of}
-use Rattle.message_tables.specs.TagMarks.{AreOnceMarked, is_marked, with_tags}
+use Rattle.message_tables.specs.TagMarks.{AreGroupsMarked, AreOnceMarked, grouped}
+use Rattle.message_tables.specs.TagMarks.{is_marked, with_tags}
 
 -- ---- lists of tags
 
@@ -60,6 +66,39 @@ tag_marked (one ∷ tags) marks tag whole there =
         with_tags-keeps tags more (tag % 512) (rw (← same) here)
     by false e later there = later there
 
+-- one more tag
+pub next_tag : (tags : List ℕ) (i none : ℕ) (old mid new : List Bool)
+    → i < length tags → mid ≡ with_tags (take i tags) old
+    → new ≡ with_tags (get_or tags i none ∷ []) mid → new ≡ with_tags (take (i + 1) tags) old
+next_tag tags i none old mid new lt so_far is =
+    is ∙ ap (with_tags (get_or tags i none ∷ [])) so_far
+    ∙ sym (with_tags-append (take i tags) (get_or tags i none ∷ []) old)
+    ∙ ap (λ (more : List ℕ). with_tags more old) (sym (take_more tags i none lt))
+
+-- the tags of a group, one after another
+pub group_marked : (count : ℕ) (rows skipped : List ℕ) (old mid : List Bool)
+    → mid ≡ with_tags rows (with_tags (count ∷ []) old)
+    → with_tags skipped mid ≡ with_tags (count ∷ (rows ++ skipped)) old
+group_marked count rows skipped old mid is =
+    ap (with_tags skipped) is ∙ sym (with_tags-append rows skipped (with_tags (count ∷ []) old))
+
+-- a tag of a group of items is among those that are grouped
+among : {Kind : Type 0} → (items : List (Item Kind)) (tag : ℕ)
+    → list_any (is_of_group tag) (flat_map group_tags_of items)
+    ≡ is_one_of (flat_map grouped items) tag
+among [] tag = refl
+among (One row ∷ items) tag = among items tag
+among (Party role ∷ items) tag = among items tag
+among (Lines group ∷ items) tag =
+    let inside : is_one_of (tags_of group.rows ++ group.skipped) tag
+    ≡ (is_one_of (tags_of group.rows) tag || is_one_of group.skipped tag) =
+    list_any-append (λ (one : ℕ). one == tag) (tags_of group.rows) group.skipped in
+    ap (λ (later : Bool). is_of_group tag (tags_in group) || later) (among items tag)
+    ∙ ap (λ (b : Bool). (eqb group.count tag || b) || is_one_of (flat_map grouped items) tag)
+    (sym inside)
+    ∙ sym (list_any-append (λ (one : ℕ). one == tag) (grouped (Lines group))
+    (flat_map grouped items))
+
 -- ---- a loop over rows
 
 module _ {K : Type 0} where
@@ -85,23 +124,24 @@ module _ {K : Type 0} where
 
   -- ---- the tags that stand at most once in a message
 
-  abbrev once : CodeItem K → List ℕ
+  abbrev pub once : CodeItem K → List ℕ
   once item = once_of (item_of (λ (k : K). k) item)
 
-  pub next_item : (items : List (CodeItem K)) (i : ℕ) (item : CodeItem K) (old mid new : List Bool)
+  pub next_item : (tags : CodeItem K → List ℕ) (items : List (CodeItem K)) (i : ℕ)
+      → (item : CodeItem K) (old mid new : List Bool)
       → item ≡ get_or items i item → i < length items
-      → mid ≡ with_tags (flat_map once (take i items)) old
-      → new ≡ with_tags (once item) mid
-      → new ≡ with_tags (flat_map once (take (i + 1) items)) old
-  next_item items i item old mid new at lt so_far is =
-      let more : flat_map once (take (i + 1) items) ≡ flat_map once (take i items) ++ once item =
-      ap (flat_map once) (take_more items i item lt
+      → mid ≡ with_tags (flat_map tags (take i items)) old
+      → new ≡ with_tags (tags item) mid
+      → new ≡ with_tags (flat_map tags (take (i + 1) items)) old
+  next_item tags items i item old mid new at lt so_far is =
+      let more : flat_map tags (take (i + 1) items) ≡ flat_map tags (take i items) ++ tags item =
+      ap (flat_map tags) (take_more items i item lt
       ∙ ap (λ (x : CodeItem K). take i items ++ x ∷ []) (sym at))
-      ∙ flat_map-append once (take i items) (item ∷ [])
-      ∙ ap (λ (last : List ℕ). flat_map once (take i items) ++ last) (append-nil (once item)) in
-      is ∙ ap (with_tags (once item)) so_far
-      ∙ sym (with_tags-append (flat_map once (take i items)) (once item) old)
-      ∙ ap (λ (tags : List ℕ). with_tags tags old) (sym more)
+      ∙ flat_map-append tags (take i items) (item ∷ [])
+      ∙ ap (λ (last : List ℕ). flat_map tags (take i items) ++ last) (append-nil (tags item)) in
+      is ∙ ap (with_tags (tags item)) so_far
+      ∙ sym (with_tags-append (flat_map tags (take i items)) (tags item) old)
+      ∙ ap (λ (all : List ℕ). with_tags all old) (sym more)
 
   item_tags : (items : List (CodeItem K))
       → flat_map once items ≡ flat_map once_of (map (item_of (λ (k : K). k)) items)
@@ -126,3 +166,37 @@ module _ {K : Type 0} where
           (replicate 512 false)) (row_tags table.header.now)
           ∙ ap (λ (tags : List ℕ). with_tags (tags_of own.header ++ tags) (replicate 512 false))
           (item_tags table.items.now)
+
+  -- ---- the tags of groups
+
+  abbrev pub grouped_at : CodeItem K → List ℕ
+  grouped_at item = grouped (item_of (λ (k : K). k) item)
+
+  grouped_tags : (items : List (CodeItem K))
+      → flat_map grouped_at items ≡ flat_map grouped (map (item_of (λ (k : K). k)) items)
+  grouped_tags [] = refl
+  grouped_tags (item ∷ items) = ap (λ (tags : List ℕ). grouped_at item ++ tags) (grouped_tags items)
+
+  -- a group whose tags are marked
+  pub lines_marked : (group : CodeGroup K) (old mid rows new : List Bool)
+      → mid ≡ with_tags (group.count ∷ []) old
+      → rows ≡ with_tags (map tag_of group.rows.now) mid
+      → new ≡ with_tags group.skipped.now rows
+      → new ≡ with_tags (grouped_at (items.Lines group)) old
+  lines_marked group old mid rows new count members skipped =
+      skipped ∙ group_marked group.count (tags_of (map (row_of (λ (k : K). k)) group.rows.now))
+      group.skipped.now old rows
+      (members ∙ ap (with_tags (map tag_of group.rows.now)) count
+      ∙ ap (λ (tags : List ℕ). with_tags tags (with_tags (group.count ∷ []) old))
+      (row_tags group.rows.now))
+
+  pub groups_marked : (table : CodeTable K) (marks : List Bool)
+      → marks ≡ with_tags (flat_map grouped_at table.items.now) (replicate 512 false)
+      → AreGroupsMarked (table_of (λ (k : K). k) table) marks
+  groups_marked table marks is tag there =
+      let own = table_of (λ (k : K). k) table in
+      ap (λ (m : List Bool). is_marked m tag) (is
+      ∙ ap (λ (tags : List ℕ). with_tags tags (replicate 512 false))
+      (grouped_tags table.items.now))
+      ∙ tag_marked (flat_map grouped own.items) (replicate 512 false) tag refl
+      (sym (among own.items tag) ∙ there)

@@ -1,11 +1,13 @@
-//! Marks of the tags that stand once in a message, which tell of most other tags that they do not.
+//! Marks of the tags that stand once in a message, or that are of its groups, which tell of most
+//! other tags that they do not or are not.
 
 ghost use Rattle.std.specs.Prelude.{◌≡◌, [], ◌∷◌, map};
-ghost use Rattle.std.specs.List.{flat_map};
+ghost use Rattle.std.specs.List.{flat_map, list_any};
 ghost use Rattle.message_tables.specs.Tables.{is_one_of};
-ghost use Rattle.message_tables.specs.FirstFault.{once_in, once_of};
+ghost use Rattle.message_tables.specs.FirstFault.{group_tags_in, is_of_group, once_in, once_of};
 ghost use Rattle.message_tables.specs.CodeTables.{item_of, table_of};
-ghost use Rattle.message_tables.specs.TagMarks.{AreOnceMarked, is_marked, with_tags};
+ghost use Rattle.message_tables.specs.TagMarks.{AreGroupsMarked, AreOnceMarked, grouped};
+ghost use Rattle.message_tables.specs.TagMarks.{is_marked, with_tags};
 
 use crate::table::{Item, Row, Table};
 
@@ -55,6 +57,40 @@ fn mark_items<K>(items: &[Item<K>], marks: &mut TagMarks)
     }
 }
 
+/// Marks these tags.
+fn mark_tags(tags: &[u32], marks: &mut TagMarks)
+    ensures { marks.new ≡ with_tags tags.now marks.old }
+{
+    for tag in tags {
+        mark(marks, *tag);
+    }
+}
+
+/// Marks the tags of an item's group, if there is one: its count, and those inside it.
+fn mark_group<K>(item: &Item<K>, marks: &mut TagMarks)
+    ensures { marks.new ≡ with_tags (grouped (item_of (λ k. k) item.now)) marks.old }
+{
+    match item {
+        Item::One(_) => {}
+        Item::Party(_) => {}
+        Item::Lines(group) => {
+            mark(marks, group.count);
+            mark_rows(group.rows, marks);
+            mark_tags(group.skipped, marks);
+        }
+    }
+}
+
+/// Marks the tags of the groups of items.
+fn mark_groups<K>(items: &[Item<K>], marks: &mut TagMarks)
+    ensures { marks.new
+        ≡ with_tags (flat_map (λ item. grouped (item_of (λ k. k) item)) items.now) marks.old }
+{
+    for item in items {
+        mark_group(item, marks);
+    }
+}
+
 /// Whether the remainder of a tag is marked.
 #[inline(always)]
 fn is_marked(marks: &TagMarks, tag: u32) -> bool
@@ -72,6 +108,24 @@ impl<K> Table<K> {
         mark_rows(self.header, &mut marks);
         mark_items(self.items, &mut marks);
         marks
+    }
+
+    /// The marks of the tags of groups.
+    pub fn group_marks(&self) -> TagMarks
+        ensures { AreGroupsMarked (table_of (λ k. k) self.now) result }
+    {
+        let mut marks = [false; REMAINDERS];
+        mark_groups(self.items, &mut marks);
+        marks
+    }
+
+    /// Whether a tag is of a group of the table, where those that are are marked.
+    pub fn is_in_groups_marked(&self, groups: &TagMarks, tag: u32) -> bool
+        requires { AreGroupsMarked (table_of (λ k. k) self.now) groups.now }
+        ensures { result
+            ≡ list_any (is_of_group tag) (group_tags_in (table_of (λ k. k) self.now)) }
+    {
+        is_marked(groups, tag) && self.is_in_groups(tag)
     }
 
     /// Whether a tag stands at most once in a message, where those that do are marked.
