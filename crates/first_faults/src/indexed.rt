@@ -11,27 +11,30 @@ ghost use Rattle.message_tables.specs.Tables.{has_tag, is_one_of, tags_in};
 ghost use Rattle.message_tables.specs.FirstFault.{first_fault, marked, once_in};
 ghost use Rattle.message_tables.specs.Plain.{IsApart, IsLoose, IsWhole};
 ghost use Rattle.message_tables.specs.Stages.{IsFound};
+ghost use Rattle.message_tables.specs.TagMarks.{AreGroupsMarked};
 ghost use Rattle.row_values.specs.declared.kinds.Kind.{Kind as CodeKind};
 ghost use Rattle.row_values.specs.CodeKinds.{kind_of};
 ghost use Rattle.row_values.specs.Kinds.{judge};
 ghost use Rattle.first_faults.specs.Indexed.{AreGoodTo, AreNeeded, AreSaid, AreTagRows, HaveCome};
 ghost use Rattle.first_faults.specs.Indexed.{IsApartItem, IsGoodField, IsRowOf, IsTagRow};
 ghost use Rattle.first_faults.specs.Indexed.{IsWholeItem};
-ghost use Rattle.first_faults.specs.Indexed.{is_said, may_be_needed, needed_of, of_tag, row_in};
+ghost use Rattle.first_faults.specs.Indexed.{is_said, may_be_needed, needed_of, of_tag};
+ghost use Rattle.first_faults.specs.Indexed.{own, row_in};
 ghost use Rattle.first_faults.specs.Indexed.{with_place};
 
 use crate::faults::{is_first, is_good, mark, value_fits};
 use arrayvec::ArrayVec;
 use field_groups::{Field, Fields};
-use message_tables::{Found, Item, Mark, Need, RepeatingGroup, Row, Table, TableFault};
+use message_tables::{Found, Item, Mark, Need, RepeatingGroup, Row, Table, TableFault, TagMarks};
 use row_values::Kind;
 use std::marker::Model;
 
 /// How many remainders of tags there are.
 const REMAINDERS: usize = 512;
 
-/// The most rows of a table that are found by their tags; further ones are searched.
-const MAX_ROWS: usize = 96;
+/// The most rows of a table that are found by their tags; further ones are searched. It is a power
+/// of two, so that a place among them is known to be one without a test.
+const MAX_ROWS: usize = 128;
 
 /// The most rows that a message may have to say.
 const MAX_NEEDED: usize = 32;
@@ -91,17 +94,18 @@ struct TagRows {
     count: usize,
 }
 
-/// The first row of a tag.
-fn tag_row(table: &'static Table<Kind>, tag: u32) -> TagRow
+/// The first row of a tag. The tags of groups are marked.
+fn tag_row(table: &'static Table<Kind>, groups: &TagMarks, tag: u32) -> TagRow
+    requires { AreGroupsMarked (own table.now) groups.now }
     ensures { IsTagRow table.now result }
 {
     match table.row(tag) {
-        None => if table.is_in_groups(tag) {
+        None => if table.is_in_groups_marked(groups, tag) {
             TagRow::Passed(tag)
         } else {
             TagRow::Absent
         },
-        Some(row) => if !table.is_in_groups(tag) {
+        Some(row) => if !table.is_in_groups_marked(groups, tag) {
             TagRow::Own(row)
         } else if !table.is_once(tag) {
             TagRow::Member(row)
@@ -124,39 +128,42 @@ impl TagRows {
     }
 
     /// Keeps the row of a tag, where there is room for it.
-    fn keep(&mut self, table: &'static Table<Kind>, tag: u32)
-        requires { AreTagRows table.now self.old.rows }
+    fn keep(&mut self, table: &'static Table<Kind>, groups: &TagMarks, tag: u32)
+        requires rows { AreTagRows table.now self.old.rows }
+        requires groups { AreGroupsMarked (own table.now) groups.now }
         ensures { AreTagRows table.now self.new.rows }
     {
         let place = self.count;
         if place < MAX_ROWS {
-            self.rows[place] = tag_row(table, tag);
+            self.rows[place] = tag_row(table, groups, tag);
             self.places[tag as usize % REMAINDERS] = place as u8;
             self.count = place + 1;
         }
     }
 
     /// Keeps the rows of these tags.
-    fn keep_all(&mut self, table: &'static Table<Kind>, rows: &[Row<Kind>])
-        requires { AreTagRows table.now self.old.rows }
+    fn keep_all(&mut self, table: &'static Table<Kind>, groups: &TagMarks, rows: &[Row<Kind>])
+        requires rows { AreTagRows table.now self.old.rows }
+        requires groups { AreGroupsMarked (own table.now) groups.now }
         ensures { AreTagRows table.now self.new.rows }
     {
         for row in rows {
-            self.keep(table, row.tag);
+            self.keep(table, groups, row.tag);
         }
     }
 
     /// Keeps the rows of an item.
-    fn keep_item(&mut self, table: &'static Table<Kind>, item: &Item<Kind>)
-        requires { AreTagRows table.now self.old.rows }
+    fn keep_item(&mut self, table: &'static Table<Kind>, groups: &TagMarks, item: &Item<Kind>)
+        requires rows { AreTagRows table.now self.old.rows }
+        requires groups { AreGroupsMarked (own table.now) groups.now }
         ensures { AreTagRows table.now self.new.rows }
     {
         match item {
-            Item::One(row) => self.keep(table, row.tag),
+            Item::One(row) => self.keep(table, groups, row.tag),
             Item::Party(_) => {}
             Item::Lines(group) => {
-                self.keep(table, group.count);
-                self.keep_all(table, group.rows);
+                self.keep(table, groups, group.count);
+                self.keep_all(table, groups, group.rows);
             }
         }
     }
@@ -166,9 +173,10 @@ impl TagRows {
         ensures { AreTagRows table.now result.rows }
     {
         let mut rows = TagRows::new();
-        rows.keep_all(table, table.header);
+        let groups = table.group_marks();
+        rows.keep_all(table, &groups, table.header);
         for item in table.items {
-            rows.keep_item(table, item);
+            rows.keep_item(table, &groups, item);
         }
         rows
     }
@@ -179,13 +187,8 @@ impl TagRows {
         requires { AreTagRows table.now self.now.rows }
         ensures { IsRowOf table.now tag result }
     {
-        match self
-            .rows
-            .get(self.places[tag as usize % REMAINDERS] as usize)
-        {
-            None => TagRow::Absent,
-            Some(row) => row.of(tag),
-        }
+        let place = self.places[tag as usize % REMAINDERS];
+        self.rows[place as usize % MAX_ROWS].of(tag)
     }
 }
 

@@ -1,4 +1,4 @@
 use Rattle.first_faults.proofs.indexed.TagRows.of.Goals as goal
 
-pub keep_all-requires : goal.keep_all-requires
-keep_all-requires c = c.new-rows.ensures c.args.table.now
+pub keep_all-requires-clause-rows : goal.keep_all-requires-clause-rows
+keep_all-requires-clause-rows c = c.new-rows.ensures c.args.table.now
