@@ -53,22 +53,21 @@ const OPEN_CLOSE: ValueKind = Code(b"OC");
 fn new_names(alloc: Global, fields: &Fields<'_>) -> Result<[Option<Bytes>; 5], AllocError>
     ensures { IfOk result (λ names. names ≡ new_names fields.now) }
 {
-    let names = [
+    [
         text(fields, 11, &Id),
         text(fields, 109, &Id),
         text(fields, 76, &Id),
         text(fields, 439, &Id),
         text(fields, 1, &Id),
     ]
-    .try_map(|text| owned(alloc, text))?;
-    Ok(names)
+    .try_map(|text| owned(alloc, text))
 }
 
 /// The texts of an order beside its names.
 fn order_texts(alloc: Global, fields: &Fields<'_>) -> Result<[Option<Bytes>; 9], AllocError>
     ensures { IfOk result (λ texts. texts ≡ order_texts fields.now) }
 {
-    let texts = [
+    [
         text(fields, 18, &EXEC_INST),
         text(fields, 100, &Id),
         text(fields, 55, &Id),
@@ -79,8 +78,7 @@ fn order_texts(alloc: Global, fields: &Fields<'_>) -> Result<[Option<Bytes>; 9],
         text(fields, 15, &Currency),
         text(fields, 58, &Text),
     ]
-    .try_map(|text| owned(alloc, text))?;
-    Ok(texts)
+    .try_map(|text| owned(alloc, text))
 }
 
 /// What New Order - Single (D) and Order Cancel/Replace Request (G) have in common, as the fields
@@ -188,7 +186,7 @@ pub(crate) fn new_order(
 fn cancel_names(alloc: Global, fields: &Fields<'_>) -> Result<[Option<Bytes>; 6], AllocError>
     ensures { IfOk result (λ names. names ≡ cancel_names fields.now) }
 {
-    let names = [
+    [
         text(fields, 11, &Id),
         text(fields, 41, &Id),
         text(fields, 37, &Id),
@@ -196,15 +194,14 @@ fn cancel_names(alloc: Global, fields: &Fields<'_>) -> Result<[Option<Bytes>; 6]
         text(fields, 76, &Id),
         text(fields, 1, &Id),
     ]
-    .try_map(|text| owned(alloc, text))?;
-    Ok(names)
+    .try_map(|text| owned(alloc, text))
 }
 
 /// The texts of a cancel request beside its names.
 fn cancel_texts(alloc: Global, fields: &Fields<'_>) -> Result<[Option<Bytes>; 6], AllocError>
     ensures { IfOk result (λ texts. texts ≡ cancel_texts fields.now) }
 {
-    let texts = [
+    [
         text(fields, 55, &Id),
         text(fields, 65, &Id),
         text(fields, 48, &Id),
@@ -212,8 +209,7 @@ fn cancel_texts(alloc: Global, fields: &Fields<'_>) -> Result<[Option<Bytes>; 6]
         text(fields, 207, &Id),
         text(fields, 58, &Text),
     ]
-    .try_map(|text| owned(alloc, text))?;
-    Ok(texts)
+    .try_map(|text| owned(alloc, text))
 }
 
 /// The cancel request of these fields, names and texts.
@@ -280,7 +276,7 @@ pub(crate) fn cancel_request(alloc: Global, fields: &Fields<'_>) -> Result<Cance
 fn replace_names(alloc: Global, fields: &Fields<'_>) -> Result<[Option<Bytes>; 7], AllocError>
     ensures { IfOk result (λ names. names ≡ replace_names fields.now) }
 {
-    let names = [
+    [
         text(fields, 11, &Id),
         text(fields, 41, &Id),
         text(fields, 37, &Id),
@@ -289,8 +285,7 @@ fn replace_names(alloc: Global, fields: &Fields<'_>) -> Result<[Option<Bytes>; 7
         text(fields, 439, &Id),
         text(fields, 1, &Id),
     ]
-    .try_map(|text| owned(alloc, text))?;
-    Ok(names)
+    .try_map(|text| owned(alloc, text))
 }
 
 /// The replace request of these fields, names and texts.
