@@ -53,7 +53,7 @@ const POSITION_EFFECT: ValueKind = Code(b"OC");
 fn order_texts(alloc: Global, fields: &Fields<'_>) -> Result<[Option<Bytes>; 11], AllocError>
     ensures { IfOk result (λ texts. texts ≡ new_texts fields.now) }
 {
-    let texts = [
+    [
         text(fields, 11, &Id),
         text(fields, 1, &Id),
         text(fields, 18, &EXEC_INST),
@@ -66,16 +66,14 @@ fn order_texts(alloc: Global, fields: &Fields<'_>) -> Result<[Option<Bytes>; 11]
         text(fields, 15, &Currency),
         text(fields, 58, &Text),
     ]
-    .try_map(|text| owned(alloc, text))?;
-    Ok(texts)
+    .try_map(|text| owned(alloc, text))
 }
 
 /// The ids that a replace request has beside the texts of a new order.
 fn ids_of_replace(alloc: Global, fields: &Fields<'_>) -> Result<[Option<Bytes>; 2], AllocError>
     ensures { IfOk result (λ ids. ids ≡ replace_ids fields.now) }
 {
-    let ids = [text(fields, 41, &Id), text(fields, 37, &Id)].try_map(|text| owned(alloc, text))?;
-    Ok(ids)
+    [text(fields, 41, &Id), text(fields, 37, &Id)].try_map(|text| owned(alloc, text))
 }
 
 /// What New Order - Single (D) and Order Cancel/Replace Request (G) have in common, as the fields
