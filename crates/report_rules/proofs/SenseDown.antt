@@ -1,17 +1,17 @@
 -- What goes down by the rules means what it meant, and changes each book alike.
-use Rattle.std.proofs.Common.{◌≡◌, ℕ, List, [], map, Bool, true, false, Option, Some, None, refl}
+use Rattle.std.proofs.Common.{◌≡◌, ℕ, [], Bool, true, false, Option, Some, None, refl}
 use Rattle.std.proofs.Common.{sym, ap, subst, ◌∙◌, codes, unwrap_or, option_map}
 use Rattle.std.proofs.lemmas.Bool.{eqb-true}
 use Rattle.std.specs.Prelude.{Ok, ◌==◌, if◌then◌else◌}
 use Rattle.field_groups.specs.HeadValues.{number_in}
 use Rattle.message_tables.specs.Tables.{Place, Tag, Said, Message, ◌>>=◌, code_of, code_if, code_in}
-use Rattle.message_tables.specs.Tables.{Cell, lines_of, said_at}
+use Rattle.message_tables.specs.Tables.{lines_of, said_at}
 use Rattle.order_meaning.specs.Book.{Book}
-use Rattle.order_meaning.specs.Meant.{none_done, step_if}
-use Rattle.order_meaning.specs.Report.{Exec, ExecutionReport, Phase, Report, Executed, NotCanceled}
+use Rattle.order_meaning.specs.Meant.{step_if}
+use Rattle.order_meaning.specs.Report.{Exec, ExecutionReport, Report, Executed, NotCanceled}
 use Rattle.order_meaning.specs.Report.{filled}
-use Rattle.order_meaning.specs.Request.{NeutralMaturity, OrderType}
-use Rattle.row_values.specs.Amounts.{amount_in, amount_of, contra_of}
+use Rattle.row_values.specs.Amounts.{amount_in, amount_of}
+use Rattle.row_values.specs.Executions.{executed_by}
 use Rattle.rows_fix42.specs.Meaning as meaning42
 use Rattle.reports_fix42.specs.Sense as sense42
 use Rattle.reports_fix42.specs.Step.{step42}
@@ -32,61 +32,6 @@ use Rattle.report_rules.proofs.ValuesDown.{other_0, other_2, other_4, reason_kep
 use Rattle.report_rules.proofs.ValuesDown.{reject_told, same_maturity, same_terms, terms42, terms50}
 
 -- ---- an execution report
-
--- AN EXECUTION by what is said at the places of either version, and by what is read otherwise
-abbrev pub executed_by : (resend : Bool) → (Place → Said) → (ℕ → List (List Cell))
-    → (parties : Said × Said × Said) → (exec_id : Said) → Exec → (status : Phase)
-    → (reasons : Option ℕ × Option ℕ) → Option NeutralMaturity → Option OrderType × Option ℕ
-    → (capacity : Option ℕ) → (text : Said) → ExecutionReport
-executed_by resend says lines parties exec_id exec status reasons mature term capacity text =
-    record {
-      resend = resend;
-      order_id = unwrap_or (says (Tag 37)) [];
-      secondary_id = says (Tag 198);
-      cl_ord_id = says (Tag 11);
-      orig_id = says (Tag 41);
-      client_id = parties.0;
-      exec_broker = parties.1;
-      clearing_firm = parties.2;
-      contras = map contra_of (lines 382);
-      exec_id = exec_id;
-      ref_id = says (Tag 19);
-      exec = exec;
-      ord_status = status;
-      rej_reason = reasons.0;
-      restate_reason = reasons.1;
-      account = says (Tag 1);
-      settl_type = says (Tag 63) >>= code_of;
-      settl_date = says (Tag 64);
-      symbol = unwrap_or (says (Tag 55)) [];
-      symbol_sfx = says (Tag 65);
-      security_id = says (Tag 48);
-      id_source = says (Tag 22) >>= code_of;
-      security_type = says (Tag 167);
-      maturity = mature;
-      security_exchange = says (Tag 207);
-      side = unwrap_or (says (Tag 54) >>= code_of) 0;
-      order_qty = says (Tag 38) >>= amount_of;
-      ord_type = term.0;
-      price = says (Tag 44) >>= amount_of;
-      stop_px = says (Tag 99) >>= amount_of;
-      currency = says (Tag 15);
-      time_in_force = term.1;
-      expire_date = says (Tag 432);
-      expire_time = says (Tag 126);
-      capacity = capacity;
-      last_qty = says (Tag 32) >>= amount_of;
-      last_px = says (Tag 31) >>= amount_of;
-      last_mkt = says (Tag 30);
-      leaves = unwrap_or (says (Tag 151) >>= amount_of) none_done;
-      cum = unwrap_or (says (Tag 14) >>= amount_of) none_done;
-      avg = unwrap_or (says (Tag 6) >>= amount_of) none_done;
-      trade_date = says (Tag 75);
-      transact_time = says (Tag 60);
-      min_qty = says (Tag 110) >>= amount_of;
-      max_floor = says (Tag 111) >>= amount_of;
-      text = text;
-    }
 
 module _ (m : Message) where
   abbrev w : Message
@@ -129,10 +74,22 @@ module _ (m : Message) where
       ∙ same_maturity (at m 200) (at m 541) h.day in
       let term = terms h in
       let text = says (Tag 58) ∙ report_told (at m 58) (at m 103) (at m 378) (at m 102) (h.report is) in
-      λ i. executed_by m.resend (λ place. says place i) (λ count. has_lines_of count i)
-      (says (Tag 109) i, says (Tag 76) i, says (Tag 439) i) (exec_id i)
-      (sense42.exec_of (code_in w.cells 20) (code_in w.cells 150)) (status i) (rej i, restate i)
-      (mature i) (term i) (says (Tag 47) i >>= code_of) (text i)
+      λ i. executed_by m.resend (λ place. says place i) (λ count. has_lines_of count i) (record {
+        client_id = says (Tag 109) i;
+        exec_broker = says (Tag 76) i;
+        clearing_firm = says (Tag 439) i;
+        exec_id = exec_id i;
+        exec = sense42.exec_of (code_in w.cells 20) (code_in w.cells 150);
+        ord_status = status i;
+        rej_reason = rej i;
+        restate_reason = restate i;
+        maturity = mature i;
+        ord_type = (term i).0;
+        time_in_force = (term i).1;
+        capacity = says (Tag 47) i >>= code_of;
+        max_floor = says (Tag 111) i >>= amount_of;
+        text = text i;
+      })
 
   report_kept : IsOrdinary m → (m.letter == 56) ≡ true → lacks_type (code_if m.cells 150) ≡ false
       → Some (Executed (sense42.execution_of w))

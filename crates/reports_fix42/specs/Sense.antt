@@ -1,13 +1,14 @@
 -- Standard: FIX 4.2, Execution Report (8), Order Cancel Reject (9), and Field Definitions: what
 -- their fields mean.
-use Rattle.std.specs.Prelude.{ℕ, List, map, Some, None, ◌==◌, ◌||◌}
+use Rattle.std.specs.Prelude.{ℕ, List, Some, None, ◌==◌, ◌||◌}
 use Rattle.std.specs.Prelude.{if◌then◌else◌}
 use Rattle.std.specs.declared.option.Option.{Option}
 use Rattle.std.specs.Result.{result_ok}
 unfoldable pub use Rattle.row_values.specs.Phases.{phase_of}
-use Rattle.row_values.specs.Amounts.{amount_if, amount_in, number_if, contra_of}
+use Rattle.row_values.specs.Amounts.{amount_if, number_if}
+use Rattle.row_values.specs.Executions.{execution_by}
 use Rattle.field_groups.specs.Field.{Field}
-use Rattle.message_tables.specs.Tables.{Tag, Cell, Said, Message, ◌>>=◌, said_at, lines_of, text_in}
+use Rattle.message_tables.specs.Tables.{Tag, Cell, Said, Message, ◌>>=◌, said_at, text_in}
 use Rattle.message_tables.specs.Tables.{code_if, code_in}
 use Rattle.order_meaning.specs.Report.{Exec, Trade, Correct, Bust, Status, Other}
 use Rattle.order_meaning.specs.Report.{ExecutionReport, CancelReject, Report, Executed, NotCanceled}
@@ -32,54 +33,22 @@ exec_id_of cells = if code_in cells 20 == 51 then None else Some (text_in cells 
 -- ---- reports
 
 abbrev pub execution_of : Message → ExecutionReport
-execution_of m = record {
-  resend = m.resend;
-  order_id = text_in m.cells 37;
-  secondary_id = said_at m.cells (Tag 198);
-  cl_ord_id = said_at m.cells (Tag 11);
-  orig_id = said_at m.cells (Tag 41);
+execution_of m = execution_by m (record {
   client_id = said_at m.cells (Tag 109);
   exec_broker = said_at m.cells (Tag 76);
   clearing_firm = said_at m.cells (Tag 439);
-  contras = map contra_of (lines_of 382 m.groups);
   exec_id = exec_id_of m.cells;
-  ref_id = said_at m.cells (Tag 19);
   exec = exec_of (code_in m.cells 20) (code_in m.cells 150);
   ord_status = phase_of (code_in m.cells 39);
   rej_reason = number_if m.cells 103;
   restate_reason = number_if m.cells 378;
-  account = said_at m.cells (Tag 1);
-  settl_type = code_if m.cells 63;
-  settl_date = said_at m.cells (Tag 64);
-  symbol = text_in m.cells 55;
-  symbol_sfx = said_at m.cells (Tag 65);
-  security_id = said_at m.cells (Tag 48);
-  id_source = code_if m.cells 22;
-  security_type = said_at m.cells (Tag 167);
   maturity = maturity_of (said_at m.cells (Tag 200)) (said_at m.cells (Tag 205));
-  security_exchange = said_at m.cells (Tag 207);
-  side = code_in m.cells 54;
-  order_qty = amount_if m.cells 38;
   ord_type = code_if m.cells 40 >>= order_type_of;
-  price = amount_if m.cells 44;
-  stop_px = amount_if m.cells 99;
-  currency = said_at m.cells (Tag 15);
   time_in_force = time_of (is_on_close (code_if m.cells 40)) (code_if m.cells 59);
-  expire_date = said_at m.cells (Tag 432);
-  expire_time = said_at m.cells (Tag 126);
   capacity = code_if m.cells 47;
-  last_qty = amount_if m.cells 32;
-  last_px = amount_if m.cells 31;
-  last_mkt = said_at m.cells (Tag 30);
-  leaves = amount_in m.cells 151;
-  cum = amount_in m.cells 14;
-  avg = amount_in m.cells 6;
-  trade_date = said_at m.cells (Tag 75);
-  transact_time = said_at m.cells (Tag 60);
-  min_qty = amount_if m.cells 110;
   max_floor = amount_if m.cells 111;
   text = said_at m.cells (Tag 58);
-}
+})
 
 abbrev pub cancel_reject_of : Message → CancelReject
 cancel_reject_of m = record {

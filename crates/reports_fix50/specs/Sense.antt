@@ -1,18 +1,19 @@
 -- Standard: FIX 5.0 SP2, volume 4, Execution Report (8), Order Cancel Reject (9), and volume 6:
 -- what their fields mean.
 -- Own: a reason that FIX 4.2 lacks counts as another one, and the text tells it.
-use Rattle.std.specs.Prelude.{ℕ, List, [], ◌∷◌, ◌++◌, map, take, codes, Option, Some, None, ◌==◌}
+use Rattle.std.specs.Prelude.{ℕ, List, [], ◌∷◌, ◌++◌, take, codes, Option, Some, None, ◌==◌}
 use Rattle.std.specs.Prelude.{◌||◌, if◌then◌else◌, nat_le}
 use Rattle.std.specs.Option.{option_map}
 use Rattle.std.specs.Result.{result_ok}
 use Rattle.std.specs.Fmt.{decimal}
 use Rattle.field_groups.specs.Field.{Field}
-use Rattle.message_tables.specs.Tables.{Tag, Role, Said, Cell, Message, ◌>>=◌, said_at, lines_of}
+use Rattle.message_tables.specs.Tables.{Tag, Role, Said, Cell, Message, ◌>>=◌, said_at}
 use Rattle.message_tables.specs.Tables.{text_in, code_in, code_if}
 use Rattle.order_meaning.specs.Report.{Exec, Trade, Correct, Bust, Status, Other, ExecutionReport}
 use Rattle.order_meaning.specs.Report.{CancelReject, Report, Executed, NotCanceled}
 unfoldable pub use Rattle.row_values.specs.Phases.{phase_of}
-use Rattle.row_values.specs.Amounts.{amount_if, amount_in, number_if, contra_of}
+use Rattle.row_values.specs.Amounts.{amount_if, number_if}
+use Rattle.row_values.specs.Executions.{execution_by}
 use Rattle.rows_fix50.specs.Meaning.{terms_of, maturity_of}
 use Rattle.reports_fix50.specs.Message.{message50}
 
@@ -61,55 +62,23 @@ telling (Some text) told = Some (take most_before_reasons text ++ told)
 
 -- what an execution report tells
 abbrev pub execution_of : Message → Exec → ExecutionReport
-execution_of m exec = record {
-  resend = m.resend;
-  order_id = text_in m.cells 37;
-  secondary_id = said_at m.cells (Tag 198);
-  cl_ord_id = said_at m.cells (Tag 11);
-  orig_id = said_at m.cells (Tag 41);
+execution_of m exec = execution_by m (record {
   client_id = said_at m.cells (Role 3);
   exec_broker = said_at m.cells (Role 1);
   clearing_firm = said_at m.cells (Role 4);
-  contras = map contra_of (lines_of 382 m.groups);
   exec_id = exec_id_of m.cells;
-  ref_id = said_at m.cells (Tag 19);
   exec = exec;
   ord_status = phase_of (code_in m.cells 39);
   rej_reason = option_map (reason_within 8 0) (number_if m.cells 103);
   restate_reason = option_map (reason_within 5 4) (number_if m.cells 378);
-  account = said_at m.cells (Tag 1);
-  settl_type = code_if m.cells 63;
-  settl_date = said_at m.cells (Tag 64);
-  symbol = text_in m.cells 55;
-  symbol_sfx = said_at m.cells (Tag 65);
-  security_id = said_at m.cells (Tag 48);
-  id_source = code_if m.cells 22;
-  security_type = said_at m.cells (Tag 167);
   maturity = maturity_of (said_at m.cells (Tag 200)) (said_at m.cells (Tag 541));
-  security_exchange = said_at m.cells (Tag 207);
-  side = code_in m.cells 54;
-  order_qty = amount_if m.cells 38;
   ord_type = (terms_of (code_if m.cells 40) (code_if m.cells 59)).0;
-  price = amount_if m.cells 44;
-  stop_px = amount_if m.cells 99;
-  currency = said_at m.cells (Tag 15);
   time_in_force = (terms_of (code_if m.cells 40) (code_if m.cells 59)).1;
-  expire_date = said_at m.cells (Tag 432);
-  expire_time = said_at m.cells (Tag 126);
   capacity = code_if m.cells 528;
-  last_qty = amount_if m.cells 32;
-  last_px = amount_if m.cells 31;
-  last_mkt = said_at m.cells (Tag 30);
-  leaves = amount_in m.cells 151;
-  cum = amount_in m.cells 14;
-  avg = amount_in m.cells 6;
-  trade_date = said_at m.cells (Tag 75);
-  transact_time = said_at m.cells (Tag 60);
-  min_qty = amount_if m.cells 110;
   max_floor = amount_if m.cells 1138;
   text = telling (said_at m.cells (Tag 58))
       (reason_told 103 8 (number_if m.cells 103) ++ reason_told 378 5 (number_if m.cells 378));
-}
+})
 
 -- what a cancel reject tells
 abbrev pub cancel_reject_of : Message → CancelReject

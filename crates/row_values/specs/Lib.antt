@@ -8,4 +8,5 @@ pub mod Maturity
 pub mod ReadRows
 pub mod Contras
 pub mod Amounts
+pub mod Executions
 pub mod Phases

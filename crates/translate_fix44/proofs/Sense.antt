@@ -10,6 +10,8 @@ use Rattle.message_tables.specs.Tables.{is_one_of, said_at}
 use Rattle.value_kinds.specs.ValueKind.{code_text}
 use Rattle.order_meaning.specs.Report.{ExecutionReport, Executed, NotCanceled, filled, or_known}
 use Rattle.order_meaning.specs.Request.{RequestKind, New, Cancel, Replace, Status}
+use Rattle.row_values.specs.Amounts.{amount_of}
+use Rattle.row_values.specs.Executions.{executed_by}
 use Rattle.row_values.specs.Phases.{phase_of}
 use Rattle.rows_fix50.specs.Meaning.{maturity_of, terms_of}
 use Rattle.dict_fix50.specs.Sense as request50
@@ -26,7 +28,6 @@ use Rattle.request_rules.specs.Rules.{is_unlisted}
 use Rattle.request_rules.proofs.SenseUp.{request_by}
 use Rattle.request_rules.proofs.TermsUp.{listed_is}
 use Rattle.report_rules.specs.Rules.{at}
-use Rattle.report_rules.proofs.SenseDown.{executed_by}
 use Rattle.report_rules.proofs.ValuesDown.{other_0, other_2, other_4, reason_kept, report_told}
 use Rattle.report_rules.proofs.ValuesDown.{reject_told}
 use Rattle.translate_fix44.specs.Rules.{Same, Else, down_rules, else_said, kinds, turn, turned_code}
@@ -174,12 +175,22 @@ module _ (m : Message) where
       let restate = (λ i. says (Tag 378) i >>= number_in)
       ∙ reason_kept 5 4 (codes "4") other_4 (at m 378) in
       let text = says (Tag 58) ∙ report_told (at m 58) (at m 103) (at m 378) (at m 102) no_reason in
-      λ i. executed_by m.resend (λ place. says place i) (λ count. lines count i)
-      (says (Role 3) i, says (Role 1) i, says (Role 4) i) (exec_id i)
-      (sense44.exec_of (code_in w.cells 150)) (status i) (rej i, restate i)
-      (maturity_of (says (Tag 200) i) (says (Tag 541) i))
-      (terms_of (says (Tag 40) i >>= code_of) (says (Tag 59) i >>= code_of))
-      (says (Tag 528) i >>= code_of) (text i)
+      λ i. executed_by m.resend (λ place. says place i) (λ count. lines count i) (record {
+        client_id = says (Role 3) i;
+        exec_broker = says (Role 1) i;
+        clearing_firm = says (Role 4) i;
+        exec_id = exec_id i;
+        exec = sense44.exec_of (code_in w.cells 150);
+        ord_status = status i;
+        rej_reason = rej i;
+        restate_reason = restate i;
+        maturity = maturity_of (says (Tag 200) i) (says (Tag 541) i);
+        ord_type = (terms_of (says (Tag 40) i >>= code_of) (says (Tag 59) i >>= code_of)).0;
+        time_in_force = (terms_of (says (Tag 40) i >>= code_of) (says (Tag 59) i >>= code_of)).1;
+        capacity = says (Tag 528) i >>= code_of;
+        max_floor = says (Tag 111) i >>= amount_of;
+        text = text i;
+      })
 
   pub report_kept : at m 102 ≡ None
       → is_unlisted types (turned_code status_turns (at m 150)) ≡ false
