@@ -65,6 +65,8 @@ fn put_all<B, O: OwnRule<B>>(
 ///
 /// `Lack::Tag` for the tag of the first rule that cannot say its line, exactly where there is one;
 /// `Lack::NoMemory` for want of memory. Then `out` is unchanged.
+// A call: where it stands in line, its loop has too few registers.
+#[inline(never)]
 pub fn put_rules<B, O: OwnRule<B>>(
     source: &Source<'_, '_, B>,
     rules: &[Rule<O>],
