@@ -11,14 +11,14 @@ use Rattle.message_tables.specs.Tables.{◌>>=◌}
 use Rattle.order_meaning.specs.declared.refusal.Refusal.{Refusal}
 use Rattle.refusal_parts.specs.Readable.{IsReadableRefusal, IsWhole}
 use Rattle.refusal_parts.specs.Said.{business_reject_says, session_reject_says}
-use Rattle.report_rules.proofs.CodeDown.{number_says}
+use Rattle.sound_laws.proofs.GroupStage.{number_said}
 use Rattle.message_answers.specs.Message.{is_refusal_type, refusal_in}
 use Rattle.message_answers.specs.Seen.{refusal_type}
 
 number_again : (number : Option ℕ) → IfSome number IsWhole
     → (option_map decimal number >>= number_in) ≡ number
 number_again None whole = refl
-number_again (Some number) whole = number_says (record { value = number }) whole
+number_again (Some number) whole = number_said number whole
 
 pub business_again : (r : Refusal) → IsReadableRefusal r → r.tag ≡ None
     → refusal_in (business_reject_says r) ≡ r
