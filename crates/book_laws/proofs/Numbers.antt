@@ -14,11 +14,11 @@ use Rattle.field_groups.specs.HeadValues.{number_in}
 use Rattle.message_tables.specs.Tables.{◌>>=◌, text_of, value_at}
 use Rattle.value_kinds.specs.ValueKind.{Number, spelling, spelt}
 use Rattle.row_values.specs.Kinds.{Value, judge, said, verdict_of}
-use Rattle.sound_laws.proofs.GroupStage.{number_said}
+use Rattle.sound_laws.proofs.GroupStage.{number_said as number_read}
 
 -- the number that digits spell is said again by their canonical spelling
 pub number_again : (n : ℕ) → n ≤ 1_000_000_000 → number_in (decimal n) ≡ Some n
-number_again n few = number_said n few
+number_again n few = number_read n few
 
 at_most : (n most : ℕ) → nat_le n most ≡ true → n ≤ most
 at_most n most test = grind (arith, nat_tests)
