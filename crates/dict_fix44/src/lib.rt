@@ -5,4 +5,7 @@
 pub mod laws;
 mod tables;
 
-pub use tables::{RequestTables, refusal_table};
+pub use tables::{
+    RequestTables, business_reject, cancel_request, new_order, refusal_table, replace_request,
+    session_reject, status_request,
+};

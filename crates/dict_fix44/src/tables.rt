@@ -138,28 +138,28 @@ static REPLACE_REQUEST_TABLE: Table<Kind> = table!(b'G', HEADER, REPLACE_REQUEST
 static STATUS_REQUEST_TABLE: Table<Kind> = table!(b'H', HEADER, STATUS_REQUEST, true);
 
 /// The table of New Order - Single.
-fn new_order() -> &'static Table<Kind>
+pub fn new_order() -> &'static Table<Kind>
     ensures { code_table kind_of result.now ≡ table 68 new_order }
 {
     &NEW_ORDER_TABLE
 }
 
 /// The table of Order Cancel Request.
-fn cancel_request() -> &'static Table<Kind>
+pub fn cancel_request() -> &'static Table<Kind>
     ensures { code_table kind_of result.now ≡ table 70 cancel_request }
 {
     &CANCEL_REQUEST_TABLE
 }
 
 /// The table of Order Cancel/Replace Request.
-fn replace_request() -> &'static Table<Kind>
+pub fn replace_request() -> &'static Table<Kind>
     ensures { code_table kind_of result.now ≡ table 71 replace_request }
 {
     &REPLACE_REQUEST_TABLE
 }
 
 /// The table of Order Status Request.
-fn status_request() -> &'static Table<Kind>
+pub fn status_request() -> &'static Table<Kind>
     ensures { code_table kind_of result.now ≡ table 72 status_request }
 {
     &STATUS_REQUEST_TABLE
@@ -246,14 +246,14 @@ static SESSION_REJECT_TABLE: Table<Kind> = table!(b'3', HEADER, SESSION_REJECT, 
 static BUSINESS_REJECT_TABLE: Table<Kind> = table!(b'j', HEADER, BUSINESS_REJECT, false);
 
 /// The table of Reject.
-fn session_reject() -> &'static Table<Kind>
+pub fn session_reject() -> &'static Table<Kind>
     ensures { code_table kind_of result.now ≡ refusal_table 51 session_reject }
 {
     &SESSION_REJECT_TABLE
 }
 
 /// The table of Business Message Reject.
-fn business_reject() -> &'static Table<Kind>
+pub fn business_reject() -> &'static Table<Kind>
     ensures { code_table kind_of result.now ≡ refusal_table 106 business_reject }
 {
     &BUSINESS_REJECT_TABLE

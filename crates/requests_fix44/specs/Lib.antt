@@ -1,0 +1,4 @@
+pub mod Content
+pub mod Readable
+pub mod Reading
+pub mod Said
