@@ -1,1 +1,2 @@
+pub mod ContraTimes
 mod Worked

@@ -1,0 +1,4 @@
+pub mod Message
+pub mod Readable
+pub mod Reading
+pub mod Said
