@@ -1,3 +1,4 @@
 pub mod Few
 pub mod Lines
 pub mod Means
+mod Worked
