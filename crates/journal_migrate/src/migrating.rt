@@ -104,10 +104,10 @@ fn put_all<D: Disk, O: Sink>(
     let records = log.count();
     let mut walk = Walk::new(alloc)?;
     walk.read_birth(disk)?;
-    put(out, walk.record())?;
+    put(out, walk.renewed())?;
     for index in 1..records {
         walk.read_entry(log, disk)?;
-        put(out, walk.record())?;
+        put(out, walk.renewed())?;
     }
     put(out, &[0])
 }

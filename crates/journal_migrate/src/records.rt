@@ -35,24 +35,24 @@ const NEW_DAY: u8 = 3;
 pub(crate) type Next = (u32, u32, u32, u32);
 
 /// Replaces a buffer by the record of a payload of two parts.
-fn write_record(record: &mut Vec<u8>, front: &[u8], rest: &[u8]) -> Result<(), AllocError>
+fn write_record(renewed: &mut Vec<u8>, front: &[u8], rest: &[u8]) -> Result<(), AllocError>
     requires { length front.now + length rest.now < 2 ^ 32 }
-    ensures { OnOk result (record.new.items ≡ blocks ((front.now ++ rest.now) ∷ [])) }
+    ensures { OnOk result (renewed.new.items ≡ blocks ((front.now ++ rest.now) ∷ [])) }
 {
     let len = (front.len() + rest.len()) as u32;
-    record.clear();
-    record.push(OPEN)?;
-    record.extend_from_slice(&len.to_be_bytes())?;
-    record.extend_from_slice(front)?;
-    record.extend_from_slice(rest)
+    renewed.clear();
+    renewed.push(OPEN)?;
+    renewed.extend_from_slice(&len.to_be_bytes())?;
+    renewed.extend_from_slice(front)?;
+    renewed.extend_from_slice(rest)
 }
 
 /// The payload of a record.
-fn payload_of(record: &[u8]) -> &[u8]
-    requires { HEAD_LEN ≤ length record.now }
-    ensures { result.now ≡ drop HEAD_LEN record.now }
+fn payload_of(renewed: &[u8]) -> &[u8]
+    requires { HEAD_LEN ≤ length renewed.now }
+    ensures { result.now ≡ drop HEAD_LEN renewed.now }
 {
-    &record[HEAD_LEN..]
+    &renewed[HEAD_LEN..]
 }
 
 /// What is behind the mark of format 1.
@@ -71,15 +71,15 @@ fn behind_mark(payload: &[u8]) -> Option<&[u8]>
 ///
 /// # Errors
 /// `AllocError` for want of memory.
-pub(crate) fn renew_birth(payload: &[u8], record: &mut Vec<u8>) -> Result<bool, AllocError>
+pub(crate) fn renew_birth(payload: &[u8], renewed: &mut Vec<u8>) -> Result<bool, AllocError>
     requires { length payload.now ≤ MAX_PAYLOAD }
-    ensures { IfOk result (λ r. TellsBirth r payload.now record.new.items) }
+    ensures { IfOk result (λ r. TellsBirth r payload.now renewed.new.items) }
 {
     let Some(rest) = behind_mark(payload) else {
         return Ok(false);
     };
-    write_record(record, MARK_2, rest)?;
-    Ok(read_birth(payload_of(record)).is_some())
+    write_record(renewed, MARK_2, rest)?;
+    Ok(read_birth(payload_of(renewed)).is_some())
 }
 
 /// The day of an entry behind those of this day, where this payload is of one.
@@ -103,14 +103,14 @@ pub(crate) fn renew_entry(
     payload: &[u8],
     day: u32,
     next: Next,
-    record: &mut Vec<u8>,
+    renewed: &mut Vec<u8>,
 ) -> Result<Option<(u32, Next)>, AllocError>
     requires sized { length payload.now ≤ MAX_PAYLOAD }
     requires few { day + 1 < 2 ^ 32 }
     ensures { IfOk result (λ r. MatchOption r (IsNoNext next payload.now)
-        (λ x. IsNext day next payload.now x.0 x.1 record.new.items)) }
+        (λ x. IsNext day next payload.now x.0 x.1 renewed.new.items)) }
 {
     let today = day_of(day, payload);
-    write_record(record, &today.to_be_bytes(), payload)?;
-    Ok(payload_next(payload_of(record), day, next))
+    write_record(renewed, &today.to_be_bytes(), payload)?;
+    Ok(payload_next(payload_of(renewed), day, next))
 }

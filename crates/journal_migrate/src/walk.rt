@@ -29,7 +29,7 @@ pub(crate) struct Walk {
     place: u64,
     day: u32,
     next: Next,
-    record: Vec<u8>,
+    renewed: Vec<u8>,
 }
 
 /// Finds the payload of the record at this place.
@@ -60,15 +60,15 @@ impl Walk {
             place: 0,
             day: 0,
             next: (1, 1, 1, 1),
-            record: Vec::with_capacity(alloc, MAX_RECORD)?,
+            renewed: Vec::with_capacity(alloc, MAX_RECORD)?,
         })
     }
 
     /// The last record, as format 2 has it.
-    pub(crate) fn record(&self) -> &[u8]
-        ensures { result.now ≡ self.now.record.items }
+    pub(crate) fn renewed(&self) -> &[u8]
+        ensures { result.now ≡ self.now.renewed.items }
     {
-        &self.record
+        &self.renewed
     }
 
     /// Reads the birth record.
@@ -81,16 +81,16 @@ impl Walk {
         ensures place { OnOk result (5 ≤ self.new.place) }
         ensures read { IfSome (D.bytes disk.old) (λ b. (ps : List (List ℕ)) (p : List ℕ)
             → Stands b ps → IsAt ps 0 p → ReadsRecord
-            (IsBirth p self.new.record.items × (self.new.place ≡ 5 + length p))
+            (IsBirth p self.new.renewed.items × (self.new.place ≡ 5 + length p))
             (IsNoBirth p) 0 result) }
-        ensures made { OnOk result ((p : List ℕ) × IsBirth p self.new.record.items) }
+        ensures made { OnOk result ((p : List ℕ) × IsBirth p self.new.renewed.items) }
         ensures only { result ≢ Err errors.OutputFault }
         ensures only_read { OnlyReads D.bytes D.image disk.old disk.new }
         ensures cause { FailsBy errors.DiskFault (D.faults disk.old) (D.faults disk.new) result }
     {
         read_payload(&mut self.chunk, disk, 0)?;
         let payload = self.chunk.payload();
-        if !renew_birth(payload, &mut self.record)? {
+        if !renew_birth(payload, &mut self.renewed)? {
             return Err(MigrateError::Refused { at: 0 });
         }
         self.place = 5 + payload.len() as u64;
@@ -110,11 +110,11 @@ impl Walk {
         ensures of { IsOf (D.bytes disk.new) self.new.chunk }
         ensures read { IfSome (D.bytes disk.old) (λ b. (ps : List (List ℕ)) (p : List ℕ)
             → Stands b ps → IsAt ps self.old.place p → ReadsRecord
-            (IsNext self.old.day self.old.next p self.new.day self.new.next self.new.record.items
+            (IsNext self.old.day self.old.next p self.new.day self.new.next self.new.renewed.items
             × (self.new.place ≡ self.old.place + 5 + length p))
             (IsNoNext self.old.next p) self.old.place result) }
         ensures made { OnOk result ((p : List ℕ) × IsNext self.old.day self.old.next p
-            self.new.day self.new.next self.new.record.items) }
+            self.new.day self.new.next self.new.renewed.items) }
         ensures only { result ≢ Err errors.OutputFault }
         ensures only_read { OnlyReads D.bytes D.image disk.old disk.new }
         ensures cause { FailsBy errors.DiskFault (D.faults disk.old) (D.faults disk.new) result }
@@ -124,7 +124,7 @@ impl Walk {
         }
         read_payload(&mut self.chunk, disk, self.place)?;
         let payload = self.chunk.payload();
-        let found = renew_entry(payload, self.day, self.next, &mut self.record)?;
+        let found = renew_entry(payload, self.day, self.next, &mut self.renewed)?;
         let Some((day, next)) = found else {
             return Err(MigrateError::Refused { at: self.place });
         };

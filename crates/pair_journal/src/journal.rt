@@ -61,14 +61,14 @@ impl Model for Journal {
 }
 
 /// Tells the out of this side and number that a payload has; false, where it has none.
-fn tell_out(record: &[u8], side: Side, number: u32, told: &mut OutTold) -> bool
+fn tell_out(payload: &[u8], side: Side, number: u32, told: &mut OutTold) -> bool
     requires room { IsRoomy told.old }
-    ensures gives { (entry : Entry) → IsEntry entry → IsPayload record.now entry →
+    ensures gives { (entry : Entry) → IsEntry entry → IsPayload payload.now entry →
         TellsIf result (numbered number (outs_to side entry.outs)) entry.at (out_told told.new) }
     ensures bounds { result ≡ true → IsOutAt (out_told told.new) }
     ensures room { IsRoomy told.new }
 {
-    let Some((_, bytes)) = u32_front(record) else {
+    let Some((_, bytes)) = u32_front(payload) else {
         return false;
     };
     let Some(front) = front_of(bytes) else {

@@ -28,7 +28,7 @@ returns-in_err-read_birth-clause-walks g c =
     c.from_residual-in_err-read_birth.ensures.1
     (first_unread told c.args.log.now c.requires.stands
     (omega (arith, c.count-records.ensures.count, c.count-records.ensures.born)) error
-    (λ p. IsBirth p walk.record.items × (walk.place ≡ 5 + length p)) old
+    (λ p. IsBirth p walk.renewed.items × (walk.place ≡ 5 + length p)) old
     c.in_err-read_birth.ensures.read)
 
 pub returns-in_err-put-clause-walks : goal.returns-in_err-put-clause-walks
@@ -41,10 +41,10 @@ returns-in_err-put-clause-walks g c =
     c.from_residual-in_err-put.ensures.1 c.in_err-put.ensures.only
     (first_begun told c.args.log.now c.requires.stands
     (omega (arith, c.count-records.ensures.count, c.count-records.ensures.born))
-    walk.record.items walk.place walk.day walk.next
+    walk.renewed.items walk.place walk.day walk.next
     (c.read_birth.ensures.day ∙ c.in_ok-walk.ensures.day)
     (c.read_birth.ensures.next ∙ c.in_ok-walk.ensures.next) c.in_ok-read_birth.ensures.read old new
-    (subst (λ (m : List ℕ). AppendsFront old new m) c.record.ensures c.in_err-put.ensures.bytes))
+    (subst (λ (m : List ℕ). AppendsFront old new m) c.renewed.ensures c.in_err-put.ensures.bytes))
 
 pub loop-index-init : goal.loop-index-init
 loop-index-init g c =
@@ -56,14 +56,14 @@ loop-index-init g c =
     record {
       put = first_put told c.args.log.now c.requires.stands
           (omega (arith, c.count-records.ensures.count, c.count-records.ensures.born))
-          walk.record.items walk.place walk.day walk.next day
+          walk.renewed.items walk.place walk.day walk.next day
           (c.read_birth.ensures.next ∙ c.in_ok-walk.ensures.next) c.in_ok-read_birth.ensures.read
           old new
-          (subst (λ (m : List ℕ). Appends old new m) c.record.ensures c.in_ok-put.ensures.bytes);
+          (subst (λ (m : List ℕ). Appends old new m) c.renewed.ensures c.in_ok-put.ensures.bytes);
       made = let birth = c.in_ok-read_birth.ensures.made in
-          first_made birth.0 walk.record.items birth.1 old new walk.day walk.next day
+          first_made birth.0 walk.renewed.items birth.1 old new walk.day walk.next day
           (c.read_birth.ensures.next ∙ c.in_ok-walk.ensures.next)
-          (subst (λ (m : List ℕ). Appends old new m) c.record.ensures c.in_ok-put.ensures.bytes);
+          (subst (λ (m : List ℕ). Appends old new m) c.renewed.ensures c.in_ok-put.ensures.bytes);
       few = omega (arith, day, c.in_ok-read_birth.ensures.place);
       of = c.in_ok-read_birth.ensures.of;
       only_read = search rules;
@@ -86,7 +86,7 @@ returns-in_err-read_entry-clause-walks g c =
     walk.next old now i.put
     (omega (arith, c.loop-index-test.true, c.count-records.ensures.count))
     (g.D.Disk.bytes c.loop-index.disk) i.only_read.same error
-    (λ p. IsNext walk.day walk.next p next.day next.next next.record.items
+    (λ p. IsNext walk.day walk.next p next.day next.next next.renewed.items
     × (next.place ≡ walk.place + 5 + length p)) c.in_err-read_entry.ensures.read)
 
 pub returns-in_err-put-2-clause-walks : goal.returns-in_err-put-2-clause-walks
@@ -103,9 +103,9 @@ returns-in_err-put-2-clause-walks g c =
     (next_begun told c.args.log.now c.requires.stands c.loop-index.index walk.place walk.day
     walk.next old now i.put
     (omega (arith, c.loop-index-test.true, c.count-records.ensures.count))
-    (g.D.Disk.bytes c.loop-index.disk) i.only_read.same next.record.items next.place next.day
+    (g.D.Disk.bytes c.loop-index.disk) i.only_read.same next.renewed.items next.place next.day
     next.next c.in_ok-read_entry.ensures.read new
-    (subst (λ (m : List ℕ). AppendsFront now new m) c.record-in-loop-index.ensures
+    (subst (λ (m : List ℕ). AppendsFront now new m) c.renewed-in-loop-index.ensures
     c.in_err-put-2.ensures.bytes))
 
 pub loop-index-preserved : goal.loop-index-preserved
@@ -121,14 +121,14 @@ loop-index-preserved g c =
       put = next_put told c.args.log.now c.requires.stands c.loop-index.index walk.place walk.day
           walk.next old now i.put
           (omega (arith, c.loop-index-test.true, c.count-records.ensures.count))
-          (g.D.Disk.bytes c.loop-index.disk) i.only_read.same next.record.items next.place next.day
+          (g.D.Disk.bytes c.loop-index.disk) i.only_read.same next.renewed.items next.place next.day
           next.next c.in_ok-read_entry.ensures.read new
-          (subst (λ (m : List ℕ). Appends now new m) c.record-in-loop-index.ensures
+          (subst (λ (m : List ℕ). Appends now new m) c.renewed-in-loop-index.ensures
           c.in_ok-put-2.ensures.bytes);
       made = let entry = c.in_ok-read_entry.ensures.made in
-          next_made walk.day walk.next old now i.made entry.0 next.record.items next.day next.next
+          next_made walk.day walk.next old now i.made entry.0 next.renewed.items next.day next.next
           entry.1 new
-          (subst (λ (m : List ℕ). Appends now new m) c.record-in-loop-index.ensures
+          (subst (λ (m : List ℕ). Appends now new m) c.renewed-in-loop-index.ensures
           c.in_ok-put-2.ensures.bytes);
       few = c.in_ok-read_entry.ensures.few;
       of = c.in_ok-read_entry.ensures.of;
@@ -157,9 +157,9 @@ returns-in_err-put-clause-puts g c =
     let old = g.O.Sink.bytes c.args.out.now in
     let new = g.O.Sink.bytes c.put.new.out in
     let birth = c.in_ok-read_birth.ensures.made in
-    first_cut birth.0 c.read_birth.new.self.record.items birth.1 old new
+    first_cut birth.0 c.read_birth.new.self.renewed.items birth.1 old new
     c.from_residual-in_err-put.result c.from_residual-in_err-put.ensures.0
-    (subst (λ (m : List ℕ). AppendsFront old new m) c.record.ensures c.in_err-put.ensures.bytes)
+    (subst (λ (m : List ℕ). AppendsFront old new m) c.renewed.ensures c.in_err-put.ensures.bytes)
 
 pub returns-in_err-read_entry-clause-puts : goal.returns-in_err-read_entry-clause-puts
 returns-in_err-read_entry-clause-puts g c =
@@ -176,9 +176,9 @@ returns-in_err-put-2-clause-puts g c =
     let now = g.O.Sink.bytes c.loop-index.out in
     let new = g.O.Sink.bytes c.put-in-loop-index.new.out in
     next_cut walk.day walk.next (g.O.Sink.bytes c.args.out.now) now c.loop-index.invariant.made
-    entry.0 next.record.items next.day next.next entry.1 new c.from_residual-in_err-put-2.result
+    entry.0 next.renewed.items next.day next.next entry.1 new c.from_residual-in_err-put-2.result
     c.from_residual-in_err-put-2.ensures.0
-    (subst (λ (m : List ℕ). AppendsFront now new m) c.record-in-loop-index.ensures
+    (subst (λ (m : List ℕ). AppendsFront now new m) c.renewed-in-loop-index.ensures
     c.in_err-put-2.ensures.bytes)
 
 pub returns-clause-puts : goal.returns-clause-puts

@@ -18,7 +18,7 @@ returns-in_err-read_payload-clause-read g c =
     let walk = c.args.self.now in
     unread (g.D.Disk.bytes c.args.disk.now) walk.place c.in_err-read_payload.field-0.0
     c.from_residual.result
-    (λ p. IsNext walk.day walk.next p walk.day walk.next walk.record.items
+    (λ p. IsNext walk.day walk.next p walk.day walk.next walk.renewed.items
     × (walk.place ≡ walk.place + 5 + length p))
     (λ p. IsNoNext walk.next p) c.from_residual.ensures.1 c.in_err-read_payload.ensures.err
 
@@ -32,7 +32,7 @@ returns-in_default-clause-read g c =
     c.in_ok-read_payload.ensures.payload) (
       refl,
       at_none c.in_ok-found.found (IsNoNext walk.next read)
-          (λ (x : ℕ × Next). IsNext walk.day walk.next read x.0 x.1 c.renew_entry.new.record.items)
+          (λ (x : ℕ × Next). IsNext walk.day walk.next read x.0 x.1 c.renew_entry.new.renewed.items)
           c.in_default.is c.in_ok-found.ensures,
     )
 
@@ -42,12 +42,12 @@ returns-clause-read g c =
     let told = g.D.Disk.bytes c.args.disk.now in
     let read = c.payload-payload.result.now in
     read_so told walk.place read
-    (λ p. IsNext walk.day walk.next p c.in-Some.day c.in-Some.next c.renew_entry.new.record.items
+    (λ p. IsNext walk.day walk.next p c.in-Some.day c.in-Some.next c.renew_entry.new.renewed.items
     × (walk.place + (5 + length read) ≡ walk.place + 5 + length p))
     (subst (ReadsPayload told walk.place) (sym c.payload-payload.ensures.payload)
     c.in_ok-read_payload.ensures.payload) (
       at_some c.in_ok-found.found (c.in-Some.day, c.in-Some.next) (IsNoNext walk.next read)
-          (λ (x : ℕ × Next). IsNext walk.day walk.next read x.0 x.1 c.renew_entry.new.record.items)
+          (λ (x : ℕ × Next). IsNext walk.day walk.next read x.0 x.1 c.renew_entry.new.renewed.items)
           c.in-Some.is c.in_ok-found.ensures,
       omega arith,
     )
@@ -58,6 +58,6 @@ returns-clause-made g c =
     let read = c.payload-payload.result.now in (
       read,
       at_some c.in_ok-found.found (c.in-Some.day, c.in-Some.next) (IsNoNext walk.next read)
-          (λ (x : ℕ × Next). IsNext walk.day walk.next read x.0 x.1 c.renew_entry.new.record.items)
+          (λ (x : ℕ × Next). IsNext walk.day walk.next read x.0 x.1 c.renew_entry.new.renewed.items)
           c.in-Some.is c.in_ok-found.ensures,
     )
