@@ -12,17 +12,21 @@ use std::alloc::{AllocError, Global};
 
 /// The groups of a new order or a replace request.
 #[derive(Drop)]
-pub(crate) struct Groups {
+pub struct Groups {
     /// Parties(453).
-    pub(crate) parties: Lines,
+    pub parties: Lines,
     /// PreAllocGrp(78).
-    pub(crate) allocs: Allocs,
+    pub allocs: Allocs,
     /// TrdgSesGrp(386).
-    pub(crate) sessions: Sessions,
+    pub sessions: Sessions,
 }
 
 /// The lines of all three groups.
-pub(crate) fn read_groups(alloc: Global, fields: &Fields<'_>) -> Result<Groups, AllocError>
+///
+/// # Errors
+///
+/// `AllocError` for want of memory.
+pub fn read_groups(alloc: Global, fields: &Fields<'_>) -> Result<Groups, AllocError>
     requires parties { length (lines_in (tags_in groups.parties) fields.now) ≤ 32 }
     requires allocs { length (lines_in (tags_in groups.allocs) fields.now) ≤ 32 }
     requires sessions { length (lines_in (tags_in groups.sessions) fields.now) ≤ 32 }

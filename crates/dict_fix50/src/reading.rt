@@ -50,7 +50,11 @@ const ORD_TYPE: ValueKind = Code(b"1234");
 const POSITION_EFFECT: ValueKind = Code(b"OC");
 
 /// The texts of a new order.
-fn order_texts(alloc: Global, fields: &Fields<'_>) -> Result<[Option<Bytes>; 11], AllocError>
+///
+/// # Errors
+///
+/// `AllocError` for want of memory.
+pub fn texts_of_order(alloc: Global, fields: &Fields<'_>) -> Result<[Option<Bytes>; 11], AllocError>
     ensures { IfOk result (λ texts. texts ≡ new_texts fields.now) }
 {
     [
@@ -70,7 +74,11 @@ fn order_texts(alloc: Global, fields: &Fields<'_>) -> Result<[Option<Bytes>; 11]
 }
 
 /// The ids that a replace request has beside the texts of a new order.
-fn ids_of_replace(alloc: Global, fields: &Fields<'_>) -> Result<[Option<Bytes>; 2], AllocError>
+///
+/// # Errors
+///
+/// `AllocError` for want of memory.
+pub fn ids_of_replace(alloc: Global, fields: &Fields<'_>) -> Result<[Option<Bytes>; 2], AllocError>
     ensures { IfOk result (λ ids. ids ≡ replace_ids fields.now) }
 {
     [text(fields, 41, &Id), text(fields, 37, &Id)].try_map(|text| owned(alloc, text))
@@ -157,8 +165,34 @@ pub(crate) fn new_order(
     ensures says { IfOk result (IsNew fields.now) }
     ensures readable { IfOk result IsReadableNew }
 {
-    let texts = order_texts(alloc, fields)?;
+    let texts = texts_of_order(alloc, fields)?;
     Ok(new_of(alloc, fields, groups, texts))
+}
+
+/// The texts of a cancel request.
+///
+/// # Errors
+///
+/// `AllocError` for want of memory.
+pub fn texts_of_cancel(
+    alloc: Global,
+    fields: &Fields<'_>,
+) -> Result<[Option<Bytes>; 10], AllocError>
+    ensures { IfOk result (λ texts. texts ≡ cancel_texts fields.now) }
+{
+    [
+        text(fields, 11, &Id),
+        text(fields, 41, &Id),
+        text(fields, 37, &Id),
+        text(fields, 1, &Id),
+        text(fields, 55, &Id),
+        text(fields, 65, &Id),
+        text(fields, 48, &Id),
+        text(fields, 167, &SECURITY_TYPE),
+        text(fields, 207, &Id),
+        text(fields, 58, &Text),
+    ]
+    .try_map(|text| owned(alloc, text))
 }
 
 /// The cancel request of these fields and texts.
@@ -217,19 +251,7 @@ pub(crate) fn cancel_request(
     ensures says { IfOk result (IsCancel fields.now) }
     ensures readable { IfOk result IsReadableCancel }
 {
-    let texts = [
-        text(fields, 11, &Id),
-        text(fields, 41, &Id),
-        text(fields, 37, &Id),
-        text(fields, 1, &Id),
-        text(fields, 55, &Id),
-        text(fields, 65, &Id),
-        text(fields, 48, &Id),
-        text(fields, 167, &SECURITY_TYPE),
-        text(fields, 207, &Id),
-        text(fields, 58, &Text),
-    ]
-    .try_map(|text| owned(alloc, text))?;
+    let texts = texts_of_cancel(alloc, fields)?;
     Ok(cancel_of(alloc, fields, parties, texts))
 }
 
@@ -264,8 +286,29 @@ pub(crate) fn replace_request(
     ensures readable { IfOk result IsReadableReplace }
 {
     let ids = ids_of_replace(alloc, fields)?;
-    let texts = order_texts(alloc, fields)?;
+    let texts = texts_of_order(alloc, fields)?;
     Ok(replace_of(alloc, fields, groups, ids, texts))
+}
+
+/// The texts of a status request.
+///
+/// # Errors
+///
+/// `AllocError` for want of memory.
+pub fn texts_of_status(alloc: Global, fields: &Fields<'_>) -> Result<[Option<Bytes>; 8], AllocError>
+    ensures { IfOk result (λ texts. texts ≡ status_texts fields.now) }
+{
+    [
+        text(fields, 11, &Id),
+        text(fields, 37, &Id),
+        text(fields, 1, &Id),
+        text(fields, 55, &Id),
+        text(fields, 65, &Id),
+        text(fields, 48, &Id),
+        text(fields, 167, &SECURITY_TYPE),
+        text(fields, 207, &Id),
+    ]
+    .try_map(|text| owned(alloc, text))
 }
 
 /// The status request of these fields and texts.
@@ -318,16 +361,6 @@ pub(crate) fn status_request(
     ensures says { IfOk result (IsStatus fields.now) }
     ensures readable { IfOk result IsReadableStatus }
 {
-    let texts = [
-        text(fields, 11, &Id),
-        text(fields, 37, &Id),
-        text(fields, 1, &Id),
-        text(fields, 55, &Id),
-        text(fields, 65, &Id),
-        text(fields, 48, &Id),
-        text(fields, 167, &SECURITY_TYPE),
-        text(fields, 207, &Id),
-    ]
-    .try_map(|text| owned(alloc, text))?;
+    let texts = texts_of_status(alloc, fields)?;
     Ok(status_of(alloc, fields, parties, texts))
 }

@@ -1,4 +1,3 @@
 pub mod Few
-pub mod Lines
 pub mod Means
 mod Worked

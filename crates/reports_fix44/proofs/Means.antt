@@ -11,7 +11,7 @@ use Rattle.row_values.proofs.ByTable.{says_parties}
 use Rattle.row_values.proofs.SaidRows.{cell}
 use Rattle.rows_fix42.proofs.ContraTimes.{contras_said}
 use Rattle.rows_fix50.specs.Header.{completed}
-use Rattle.reports_fix44.specs.declared.reports.Report44.{Report44}
+use Rattle.reports_fix50.specs.declared.reports.Report50.{Report50}
 use Rattle.reports_fix44.specs.declared.reports.CancelReject44.{CancelReject44}
 use Rattle.reports_fix44.specs.Message.{report_table, cancel_reject_table}
 use Rattle.reports_fix44.specs.Said.{report_says, cancel_reject_says}
@@ -24,7 +24,7 @@ pub ◌&◌ : {place : Place} {a b : Said} {xs ys : List Cell} → a ≡ b → x
 e & es = cell e es
 
 -- an execution report is read by its cells
-pub report_is : (fields : List Field) (m : Report44) → m.resend ≡ resend_of fields
+pub report_is : (fields : List Field) (m : Report50) → m.resend ≡ resend_of fields
     → AreParties fields m.parties → AreContras fields m.contras
     → (first_fault judge report_table fields ≡ None
     → map party_cells m.parties ≡ (group_says judge fields parties).1

@@ -3,7 +3,6 @@
 //! dict_fix44.
 #![tactic(auto)]
 
-mod groups;
 mod message;
 mod reading;
 mod reports;

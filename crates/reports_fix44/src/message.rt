@@ -9,10 +9,10 @@ ghost use Rattle.refusal_parts.specs.Readable.{IsReadableRefusal};
 ghost use Rattle.refusal_parts.specs.Said.{business_reject_says, session_reject_says};
 ghost use Rattle.reports_fix44.specs.Message.{business_reject_table, cancel_reject_table};
 ghost use Rattle.reports_fix44.specs.Message.{report_by, report_table, session_reject_table};
-ghost use Rattle.reports_fix44.specs.Readable.{IsReadableCancelReject, IsReadableReport};
+ghost use Rattle.reports_fix50.specs.Readable.{IsReadableReport};
+ghost use Rattle.reports_fix44.specs.Readable.{IsReadableCancelReject};
 ghost use Rattle.reports_fix44.specs.Said.{cancel_reject_says, report_says};
 
-use crate::groups::read_groups;
 use crate::reading::{cancel_reject, execution_report};
 use crate::reports::{CancelReject44, Report44};
 use crate::tables;
@@ -21,6 +21,7 @@ use field_groups::Split;
 use first_faults::good_fields;
 use order_meaning::{Fault, Refusal};
 use refusal_parts::{business_reject, business_reject_parts, session_reject, session_reject_parts};
+use reports_fix50::read_groups;
 use row_values::put_content;
 use std::alloc::{AllocError, Global};
 

@@ -5,23 +5,24 @@
 
 ghost use Rattle.std.specs.Prelude.{◌≡◌, IfOk, IfSome};
 ghost use Rattle.value_kinds.specs.ValueKind.{code_text};
-ghost use Rattle.reports_fix44.specs.Readable.{IsReadableCancelReject, IsReadableReport};
-ghost use Rattle.reports_fix44.specs.Reading.{AreGroups, IsCancelReject, IsReport};
-ghost use Rattle.reports_fix44.specs.Reading.{cancel_reject_texts, exec_type_said, order_texts};
-ghost use Rattle.reports_fix44.specs.Reading.{report_texts};
+ghost use Rattle.reports_fix50.specs.Readable.{IsReadableReport};
+ghost use Rattle.reports_fix50.specs.Reading.{AreGroups, cancel_reject_texts, order_texts};
+ghost use Rattle.reports_fix50.specs.Reading.{report_texts};
+ghost use Rattle.reports_fix44.specs.Readable.{IsReadableCancelReject};
+ghost use Rattle.reports_fix44.specs.Reading.{IsCancelReject, IsReport, exec_type_said};
 
-use crate::groups::Groups;
 use crate::reports::{CancelReject44, Report44};
 use crate::tables::{EXEC_TYPES, ORD_STATUSES};
 use field_groups::Fields;
 use order_meaning::Bytes;
+use reports_fix50::{Groups, texts_of_order, texts_of_reject, texts_of_report};
 use row_values::{
-    code, day, or_empty, owned, price, price_or_zero, qty, qty_or_zero, reason, resend, stamp, text,
+    code, day, or_empty, price, price_or_zero, qty, qty_or_zero, reason, resend, stamp,
 };
 use rows_fix50::{maturity, time_in_force};
 use std::alloc::{AllocError, Global};
 use value_kinds::ValueKind;
-use value_kinds::ValueKind::{Code, Currency, Id, Text, Word};
+use value_kinds::ValueKind::Code;
 
 /// What ExecType(150) may be.
 const EXEC_TYPE: ValueKind = Code(EXEC_TYPES);
@@ -34,9 +35,6 @@ const SETTL_TYPE: ValueKind = Code(b"0123456789");
 
 /// What SecurityIDSource(22) may be.
 const ID_SOURCE: ValueKind = Code(b"123456789");
-
-/// What SecurityType(167) may be.
-const SECURITY_TYPE: ValueKind = Word(&[b"CS", b"PS", b"FUT"]);
 
 /// What Side(54) may be.
 const SIDE: ValueKind = Code(b"123456");
@@ -57,43 +55,8 @@ fn exec_type(fields: &Fields<'_>) -> u8
     code(fields, 150, &EXEC_TYPE).unwrap_or(0)
 }
 
-/// The texts of an execution report besides those of its order.
-fn texts_of_report(alloc: Global, fields: &Fields<'_>) -> Result<[Option<Bytes>; 8], AllocError>
-    ensures { IfOk result (λ texts. texts ≡ report_texts fields.now) }
-{
-    let texts = [
-        text(fields, 37, &Id),
-        text(fields, 198, &Id),
-        text(fields, 11, &Id),
-        text(fields, 41, &Id),
-        text(fields, 17, &Id),
-        text(fields, 19, &Id),
-        text(fields, 30, &Id),
-        text(fields, 58, &Text),
-    ]
-    .try_map(|text| owned(alloc, text))?;
-    Ok(texts)
-}
-
-/// The texts of the order of an execution report.
-fn texts_of_order(alloc: Global, fields: &Fields<'_>) -> Result<[Option<Bytes>; 7], AllocError>
-    ensures { IfOk result (λ texts. texts ≡ order_texts fields.now) }
-{
-    let texts = [
-        text(fields, 1, &Id),
-        text(fields, 55, &Id),
-        text(fields, 65, &Id),
-        text(fields, 48, &Id),
-        text(fields, 167, &SECURITY_TYPE),
-        text(fields, 207, &Id),
-        text(fields, 15, &Currency),
-    ]
-    .try_map(|text| owned(alloc, text))?;
-    Ok(texts)
-}
-
 /// The execution report of these fields, groups and texts.
-#[tactic(auto, using(crate::proofs::Lines::of_lines))]
+#[tactic(auto, using(reports_fix50::proofs::Lines::of_lines))]
 fn report_of(
     alloc: Global,
     fields: &Fields<'_>,
@@ -219,14 +182,6 @@ pub(crate) fn cancel_reject(
     ensures says { IfOk result (IsCancelReject fields.now) }
     ensures readable { IfOk result IsReadableCancelReject }
 {
-    let texts = [
-        text(fields, 37, &Id),
-        text(fields, 198, &Id),
-        text(fields, 11, &Id),
-        text(fields, 41, &Id),
-        text(fields, 1, &Id),
-        text(fields, 58, &Text),
-    ]
-    .try_map(|text| owned(alloc, text))?;
+    let texts = texts_of_reject(alloc, fields)?;
     Ok(cancel_reject_of(alloc, fields, texts))
 }

@@ -5,7 +5,8 @@ ghost use Rattle.std.specs.List.{AllByRecursion, flat_map};
 ghost use Rattle.message_tables.specs.Content.{content};
 ghost use Rattle.row_values.specs.Writing.{IsPart, part_fields};
 ghost use Rattle.reports_fix44.specs.Message.{cancel_reject_table, report_table};
-ghost use Rattle.reports_fix44.specs.Readable.{IsReadableCancelReject, IsReadableReport};
+ghost use Rattle.reports_fix50.specs.Readable.{IsReadableReport};
+ghost use Rattle.reports_fix44.specs.Readable.{IsReadableCancelReject};
 ghost use Rattle.reports_fix44.specs.Said.{cancel_reject_says, report_says};
 
 use crate::reports::{CancelReject44, Report44};

@@ -1,5 +1,5 @@
 -- Own: what the structs of the reports of FIX 5.0 SP2 say, row by row of their tables.
-use Rattle.std.specs.Prelude.{[], ◌∷◌, map, Some, option_and_then}
+use Rattle.std.specs.Prelude.{ℕ, [], ◌∷◌, map, Some, option_and_then}
 use Rattle.std.specs.Option.{option_map}
 use Rattle.typed_fields.specs.Dec.{dec_text}
 use Rattle.typed_fields.specs.Day.{day_text}
@@ -13,9 +13,9 @@ use Rattle.rows_fix50.specs.Meaning.{id_of}
 use Rattle.reports_fix50.specs.declared.reports.Report50.{Report50}
 use Rattle.reports_fix50.specs.declared.reports.CancelReject50.{CancelReject50}
 
--- what an execution report says
-abbrev pub report_says : Report50 → Message
-report_says m = record {
+-- what an execution report says, whose max floor stands at this tag
+abbrev pub executed_says : ℕ → Report50 → Message
+executed_says floor m = record {
   letter = 56;
   resend = m.resend;
   cells =
@@ -62,11 +62,15 @@ report_says m = record {
       (Tag 75, option_map day_text m.trade_date) ∷
       (Tag 60, option_map stamp_text m.transact_time) ∷
       (Tag 110, option_map dec_text m.min_qty) ∷
-      (Tag 1138, option_map dec_text m.max_floor) ∷
+      (Tag floor, option_map dec_text m.max_floor) ∷
       (Tag 58, m.text) ∷
       [];
   groups = (453, map party_cells m.parties) ∷ (382, map contra_cells m.contras) ∷ [];
 }
+
+-- in FIX 5.0 SP2 it is DisplayQty (1138)
+abbrev pub report_says : Report50 → Message
+report_says m = executed_says 1138 m
 
 -- what a cancel reject says
 abbrev pub cancel_reject_says : CancelReject50 → Message

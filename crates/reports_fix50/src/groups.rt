@@ -13,15 +13,19 @@ use std::alloc::{AllocError, Global};
 
 /// The groups of an execution report.
 #[derive(Drop)]
-pub(crate) struct Groups {
+pub struct Groups {
     /// Parties(453).
-    pub(crate) parties: Lines,
+    pub parties: Lines,
     /// ContraGrp(382).
-    pub(crate) contras: Contras,
+    pub contras: Contras,
 }
 
 /// The lines of both groups.
-pub(crate) fn read_groups(alloc: Global, fields: &Fields<'_>) -> Result<Groups, AllocError>
+///
+/// # Errors
+///
+/// `AllocError` for want of memory.
+pub fn read_groups(alloc: Global, fields: &Fields<'_>) -> Result<Groups, AllocError>
     requires parties { length (lines_in (tags_in groups.parties) fields.now) ≤ 32 }
     requires contras { length (lines_in (tags_in contras.contras) fields.now) ≤ 32 }
     ensures { IfOk result (AreGroups fields.now) }

@@ -10,11 +10,12 @@ mod reports;
 mod tables;
 mod writing;
 
+pub use groups::{Groups, read_groups};
 pub use message::{
     ReportTables, good_report, read_business_reject, read_cancel_reject, read_report,
     read_session_reject, write_business_reject, write_cancel_reject, write_report,
     write_session_reject, write_without_parties,
 };
-pub use reading::exec_type;
+pub use reading::{exec_type, texts_of_order, texts_of_reject, texts_of_report};
 pub use reports::{CancelReject50, Report50};
 pub use tables::{cancel_reject, execution_report};

@@ -59,7 +59,11 @@ pub fn exec_type(fields: &Fields<'_>) -> u8
 }
 
 /// The texts of an execution report besides those of its order.
-fn texts_of_report(alloc: Global, fields: &Fields<'_>) -> Result<[Option<Bytes>; 8], AllocError>
+///
+/// # Errors
+///
+/// `AllocError` for want of memory.
+pub fn texts_of_report(alloc: Global, fields: &Fields<'_>) -> Result<[Option<Bytes>; 8], AllocError>
     ensures { IfOk result (λ texts. texts ≡ report_texts fields.now) }
 {
     let texts = [
@@ -77,7 +81,11 @@ fn texts_of_report(alloc: Global, fields: &Fields<'_>) -> Result<[Option<Bytes>;
 }
 
 /// The texts of the order of an execution report.
-fn texts_of_order(alloc: Global, fields: &Fields<'_>) -> Result<[Option<Bytes>; 7], AllocError>
+///
+/// # Errors
+///
+/// `AllocError` for want of memory.
+pub fn texts_of_order(alloc: Global, fields: &Fields<'_>) -> Result<[Option<Bytes>; 7], AllocError>
     ensures { IfOk result (λ texts. texts ≡ order_texts fields.now) }
 {
     let texts = [
@@ -190,6 +198,25 @@ pub(crate) fn execution_report(
     Ok(report_of(alloc, fields, groups, order, texts))
 }
 
+/// The texts of a cancel reject.
+///
+/// # Errors
+///
+/// `AllocError` for want of memory.
+pub fn texts_of_reject(alloc: Global, fields: &Fields<'_>) -> Result<[Option<Bytes>; 6], AllocError>
+    ensures { IfOk result (λ texts. texts ≡ cancel_reject_texts fields.now) }
+{
+    [
+        text(fields, 37, &Id),
+        text(fields, 198, &Id),
+        text(fields, 11, &Id),
+        text(fields, 41, &Id),
+        text(fields, 1, &Id),
+        text(fields, 58, &Text),
+    ]
+    .try_map(|text| owned(alloc, text))
+}
+
 /// The cancel reject of these fields and texts.
 fn cancel_reject_of(alloc: Global, fields: &Fields<'_>, texts: [Option<Bytes>; 6]) -> CancelReject50
     requires { texts ≡ cancel_reject_texts fields.now }
@@ -220,14 +247,6 @@ pub(crate) fn cancel_reject(
     ensures says { IfOk result (IsCancelReject fields.now) }
     ensures readable { IfOk result IsReadableCancelReject }
 {
-    let texts = [
-        text(fields, 37, &Id),
-        text(fields, 198, &Id),
-        text(fields, 11, &Id),
-        text(fields, 41, &Id),
-        text(fields, 1, &Id),
-        text(fields, 58, &Text),
-    ]
-    .try_map(|text| owned(alloc, text))?;
+    let texts = texts_of_reject(alloc, fields)?;
     Ok(cancel_reject_of(alloc, fields, texts))
 }

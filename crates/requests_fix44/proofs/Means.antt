@@ -12,11 +12,12 @@ use Rattle.rows_fix42.specs.Header.{table}
 use Rattle.rows_fix50.specs.Header.{completed, month_by}
 use Rattle.rows_fix50.proofs.Roles.{of_role}
 use Rattle.requests_fix44.specs.declared.requests.New44.{New44}
-use Rattle.requests_fix44.specs.declared.requests.Cancel44.{Cancel44}
+use Rattle.dict_fix50.specs.declared.requests.Cancel50.{Cancel50}
 use Rattle.requests_fix44.specs.declared.requests.Replace44.{Replace44}
-use Rattle.requests_fix44.specs.declared.requests.Status44.{Status44}
+use Rattle.dict_fix50.specs.declared.requests.Status50.{Status50}
 use Rattle.dict_fix44.specs.Requests.{new_order, cancel_request, replace_request, status_request}
-use Rattle.requests_fix44.specs.Said.{new_says, cancel_says, replace_says, status_says}
+use Rattle.dict_fix50.specs.Said.{cancel_says, status_says}
+use Rattle.requests_fix44.specs.Said.{new_says, replace_says}
 use Rattle.requests_fix44.specs.Reading.{IsNew, IsCancel, IsReplace, IsStatus}
 
 abbrev pub new_table : Table Kind
@@ -65,7 +66,7 @@ module _ (fields : List Field) where
       ∷ (386, says_sessions new_table fields h 14 refl refl m.sessions w.sessions i) ∷ [])
 
   pub cancel_means : first_fault judge cancel_table fields ≡ None
-      → (m : Cancel44) → IsCancel fields m
+      → (m : Cancel50) → IsCancel fields m
       → cancel_says m ≡ completed (message_in judge cancel_table fields)
   unfolding first_of
   cancel_means h m w =
@@ -95,7 +96,7 @@ module _ (fields : List Field) where
       ∷ (386, says_sessions replace_table fields h 16 refl refl m.sessions w.sessions i) ∷ [])
 
   pub status_means : first_fault judge status_table fields ≡ None
-      → (m : Status44) → IsStatus fields m
+      → (m : Status50) → IsStatus fields m
       → status_says m ≡ completed (message_in judge status_table fields)
   unfolding first_of
   status_means h m w =

@@ -3,11 +3,11 @@ use Rattle.std.specs.Prelude.{◌≡◌, [], ◌∷◌, codes, true, Some, None,
 use Rattle.std.specs.Fmt.{digits}
 use Rattle.typed_fields.specs.Digits.{zero_padded}
 use Rattle.requests_fix44.specs.Content.{content44}
-use Rattle.requests_fix44.specs.declared.requests.Status44.{Status44}
+use Rattle.dict_fix50.specs.declared.requests.Status50.{Status50}
 use Rattle.requests_fix44.specs.declared.requests.Msg44.TheVariants.{Status}
 
 -- a status request of the client C7, on a future that falls due on 30 June 2024
-abbrev sample : Status44
+abbrev sample : Status50
 sample = record {
   resend = true;
   cl_ord_id = codes "A1";

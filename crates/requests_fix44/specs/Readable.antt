@@ -5,10 +5,9 @@ use Rattle.typed_fields.specs.Dec.{IsDec}
 use Rattle.typed_fields.specs.Day.{IsDay}
 use Rattle.typed_fields.specs.Stamp.{IsStamp}
 use Rattle.row_values.specs.Lines.{IsReadableMaturity, AreReadableParties, AreReadableAllocs}
+use Rattle.dict_fix50.specs.Readable.{IsReadableCancel, IsReadableStatus}
 use Rattle.requests_fix44.specs.declared.requests.New44.{New44}
-use Rattle.requests_fix44.specs.declared.requests.Cancel44.{Cancel44}
 use Rattle.requests_fix44.specs.declared.requests.Replace44.{Replace44}
-use Rattle.requests_fix44.specs.declared.requests.Status44.{Status44}
 use Rattle.requests_fix44.specs.declared.requests.Msg44.{Msg44}
 use Rattle.requests_fix44.specs.declared.requests.Msg44.TheVariants as messages
 
@@ -27,12 +26,6 @@ pub record IsReadableNew (m : New44) : Type 0 where
   pub expire_date : IfSome m.expire_date IsDay
   pub expire_time : IfSome m.expire_time IsStamp
 
-pub record IsReadableCancel (m : Cancel44) : Type 0 where
-  pub parties : AreReadableParties m.parties
-  pub maturity : IfSome m.maturity IsReadableMaturity
-  pub transact_time : IsStamp m.transact_time
-  pub order_qty : IfSome m.order_qty IsDec
-
 pub record IsReadableReplace (m : Replace44) : Type 0 where
   pub parties : AreReadableParties m.parties
   pub allocs : AreReadableAllocs m.allocs
@@ -47,10 +40,6 @@ pub record IsReadableReplace (m : Replace44) : Type 0 where
   pub effective_time : IfSome m.effective_time IsStamp
   pub expire_date : IfSome m.expire_date IsDay
   pub expire_time : IfSome m.expire_time IsStamp
-
-pub record IsReadableStatus (m : Status44) : Type 0 where
-  pub parties : AreReadableParties m.parties
-  pub maturity : IfSome m.maturity IsReadableMaturity
 
 -- A MESSAGE WHOSE VALUES CAN BE READ
 abbrev pub IsReadable44 : Msg44 → Type 0

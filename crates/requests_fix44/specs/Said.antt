@@ -10,10 +10,9 @@ use Rattle.value_kinds.specs.ValueKind.{code_text}
 use Rattle.message_tables.specs.Tables.{Tag, Role, Message}
 use Rattle.row_values.specs.Lines.{month_text, party_cells, alloc_cells, session_cells, date_text}
 use Rattle.rows_fix50.specs.Meaning.{id_of}
+use Rattle.dict_fix50.specs.Said.{cancel_says, status_says}
 use Rattle.requests_fix44.specs.declared.requests.New44.{New44}
-use Rattle.requests_fix44.specs.declared.requests.Cancel44.{Cancel44}
 use Rattle.requests_fix44.specs.declared.requests.Replace44.{Replace44}
-use Rattle.requests_fix44.specs.declared.requests.Status44.{Status44}
 use Rattle.requests_fix44.specs.declared.requests.Msg44.{Msg44}
 use Rattle.requests_fix44.specs.declared.requests.Msg44.TheVariants as messages
 
@@ -63,34 +62,6 @@ new_says m = record {
       ∷ (386, map session_cells m.sessions) ∷ [];
 }
 
--- what a cancel request says
-abbrev pub cancel_says : Cancel44 → Message
-cancel_says m = record {
-  letter = 70;
-  resend = m.resend;
-  cells =
-      (Tag 11, Some m.cl_ord_id) ∷
-      (Tag 41, Some m.orig_id) ∷
-      (Tag 37, m.order_id) ∷
-      (Role 3, id_of 3 m.parties) ∷
-      (Role 1, id_of 1 m.parties) ∷
-      (Tag 1, m.account) ∷
-      (Tag 55, Some m.symbol) ∷
-      (Tag 65, m.symbol_sfx) ∷
-      (Tag 48, m.security_id) ∷
-      (Tag 22, option_map code_text m.id_source) ∷
-      (Tag 167, m.security_type) ∷
-      (Tag 200, option_map month_text m.maturity) ∷
-      (Tag 541, option_and_then date_text m.maturity) ∷
-      (Tag 207, m.security_exchange) ∷
-      (Tag 54, Some (code_text m.side)) ∷
-      (Tag 60, Some (stamp_text m.transact_time)) ∷
-      (Tag 38, option_map dec_text m.order_qty) ∷
-      (Tag 58, m.text) ∷
-      [];
-  groups = (453, map party_cells m.parties) ∷ [];
-}
-
 -- what a replace request says
 abbrev pub replace_says : Replace44 → Message
 replace_says m = record {
@@ -137,30 +108,6 @@ replace_says m = record {
       [];
   groups = (453, map party_cells m.parties) ∷ (78, map alloc_cells m.allocs)
       ∷ (386, map session_cells m.sessions) ∷ [];
-}
-
--- what a status request says
-abbrev pub status_says : Status44 → Message
-status_says m = record {
-  letter = 72;
-  resend = m.resend;
-  cells =
-      (Tag 11, Some m.cl_ord_id) ∷
-      (Tag 37, m.order_id) ∷
-      (Role 3, id_of 3 m.parties) ∷
-      (Role 1, id_of 1 m.parties) ∷
-      (Tag 1, m.account) ∷
-      (Tag 55, Some m.symbol) ∷
-      (Tag 65, m.symbol_sfx) ∷
-      (Tag 48, m.security_id) ∷
-      (Tag 22, option_map code_text m.id_source) ∷
-      (Tag 167, m.security_type) ∷
-      (Tag 200, option_map month_text m.maturity) ∷
-      (Tag 541, option_and_then date_text m.maturity) ∷
-      (Tag 207, m.security_exchange) ∷
-      (Tag 54, Some (code_text m.side)) ∷
-      [];
-  groups = (453, map party_cells m.parties) ∷ [];
 }
 
 -- WHAT A MESSAGE SAYS

@@ -1,7 +1,6 @@
 //! The requests of FIX 4.4 (D, F, G, H) as structs, read and written by the tables of dict_fix44.
 #![tactic(auto)]
 
-mod groups;
 mod message;
 mod reading;
 mod requests;

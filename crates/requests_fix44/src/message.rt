@@ -11,10 +11,10 @@ ghost use Rattle.dict_fix44.specs.Requests.{status_request};
 ghost use Rattle.requests_fix44.specs.Said.{says};
 ghost use Rattle.requests_fix44.specs.Content.{content44};
 
-use crate::groups::read_groups;
 use crate::reading::{cancel_request, new_order, replace_request, status_request};
 use crate::requests::Msg44;
 use crate::writing::{cancel_parts, new_parts, replace_parts, status_parts};
+use dict_fix50::read_groups;
 use field_groups::{Split, is_type};
 use first_faults::good_fields;
 use order_meaning::Fault;

@@ -4,24 +4,24 @@
 //! table is a line of the literal.
 
 ghost use Rattle.std.specs.Prelude.{◌≡◌, IfOk};
-ghost use Rattle.requests_fix44.specs.Readable.{IsReadableCancel, IsReadableNew};
-ghost use Rattle.requests_fix44.specs.Readable.{IsReadableReplace, IsReadableStatus};
+ghost use Rattle.dict_fix50.specs.Readable.{IsReadableCancel, IsReadableStatus};
+ghost use Rattle.requests_fix44.specs.Readable.{IsReadableNew, IsReadableReplace};
 ghost use Rattle.row_values.specs.Groups.{AreParties};
-ghost use Rattle.requests_fix44.specs.Reading.{AreGroups, IsCancel, IsNew, IsReplace};
-ghost use Rattle.requests_fix44.specs.Reading.{IsStatus, cancel_texts, new_texts, replace_ids};
-ghost use Rattle.requests_fix44.specs.Reading.{status_texts};
+ghost use Rattle.dict_fix50.specs.Reading.{AreGroups, cancel_texts, new_texts, replace_ids};
+ghost use Rattle.dict_fix50.specs.Reading.{status_texts};
+ghost use Rattle.requests_fix44.specs.Reading.{IsCancel, IsNew, IsReplace, IsStatus};
 
-use crate::groups::Groups;
 use crate::requests::{Cancel44, New44, Replace44, Status44};
+use dict_fix50::{Groups, ids_of_replace, texts_of_cancel, texts_of_order, texts_of_status};
 use field_groups::Fields;
 use order_meaning::{Bytes, Lines};
 use row_values::{
-    code, day, flag, or_empty, owned, price, qty, qty_or_zero, resend, stamp, stamp_or_epoch, text,
+    code, day, flag, or_empty, price, qty, qty_or_zero, resend, stamp, stamp_or_epoch,
 };
 use rows_fix50::maturity;
 use std::alloc::{AllocError, Global};
 use value_kinds::ValueKind;
-use value_kinds::ValueKind::{Code, Codes, Currency, Id, OneByte, Text, Word};
+use value_kinds::ValueKind::{Code, OneByte};
 
 /// What SettlType(63) may be.
 const SETTL_TYPE: ValueKind = Code(b"0123456789");
@@ -29,14 +29,8 @@ const SETTL_TYPE: ValueKind = Code(b"0123456789");
 /// What HandlInst(21) may be.
 const HAND_INST: ValueKind = Code(b"123");
 
-/// What ExecInst(18) may be.
-const EXEC_INST: ValueKind = Codes(b"123456G");
-
 /// What SecurityIDSource(22) may be.
 const ID_SOURCE: ValueKind = Code(b"123456789");
-
-/// What SecurityType(167) may be.
-const SECURITY_TYPE: ValueKind = Word(&[b"CS", b"PS", b"FUT"]);
 
 /// What Side(54) may be.
 const SIDE: ValueKind = Code(b"123456");
@@ -49,35 +43,6 @@ const TIME_IN_FORCE: ValueKind = Code(b"01234567");
 
 /// What PositionEffect(77) may be.
 const POSITION_EFFECT: ValueKind = Code(b"OC");
-
-/// The texts of a new order.
-fn order_texts(alloc: Global, fields: &Fields<'_>) -> Result<[Option<Bytes>; 11], AllocError>
-    ensures { IfOk result (λ texts. texts ≡ new_texts fields.now) }
-{
-    let texts = [
-        text(fields, 11, &Id),
-        text(fields, 1, &Id),
-        text(fields, 18, &EXEC_INST),
-        text(fields, 100, &Id),
-        text(fields, 55, &Id),
-        text(fields, 65, &Id),
-        text(fields, 48, &Id),
-        text(fields, 167, &SECURITY_TYPE),
-        text(fields, 207, &Id),
-        text(fields, 15, &Currency),
-        text(fields, 58, &Text),
-    ]
-    .try_map(|text| owned(alloc, text))?;
-    Ok(texts)
-}
-
-/// The ids that a replace request has beside the texts of a new order.
-fn ids_of_replace(alloc: Global, fields: &Fields<'_>) -> Result<[Option<Bytes>; 2], AllocError>
-    ensures { IfOk result (λ ids. ids ≡ replace_ids fields.now) }
-{
-    let ids = [text(fields, 41, &Id), text(fields, 37, &Id)].try_map(|text| owned(alloc, text))?;
-    Ok(ids)
-}
 
 /// What New Order - Single (D) and Order Cancel/Replace Request (G) have in common, as the fields
 /// say it, and the fields that the request has besides.
@@ -160,7 +125,7 @@ pub(crate) fn new_order(
     ensures says { IfOk result (IsNew fields.now) }
     ensures readable { IfOk result IsReadableNew }
 {
-    let texts = order_texts(alloc, fields)?;
+    let texts = texts_of_order(alloc, fields)?;
     Ok(new_of(alloc, fields, groups, texts))
 }
 
@@ -220,19 +185,7 @@ pub(crate) fn cancel_request(
     ensures says { IfOk result (IsCancel fields.now) }
     ensures readable { IfOk result IsReadableCancel }
 {
-    let texts = [
-        text(fields, 11, &Id),
-        text(fields, 41, &Id),
-        text(fields, 37, &Id),
-        text(fields, 1, &Id),
-        text(fields, 55, &Id),
-        text(fields, 65, &Id),
-        text(fields, 48, &Id),
-        text(fields, 167, &SECURITY_TYPE),
-        text(fields, 207, &Id),
-        text(fields, 58, &Text),
-    ]
-    .try_map(|text| owned(alloc, text))?;
+    let texts = texts_of_cancel(alloc, fields)?;
     Ok(cancel_of(alloc, fields, parties, texts))
 }
 
@@ -267,7 +220,7 @@ pub(crate) fn replace_request(
     ensures readable { IfOk result IsReadableReplace }
 {
     let ids = ids_of_replace(alloc, fields)?;
-    let texts = order_texts(alloc, fields)?;
+    let texts = texts_of_order(alloc, fields)?;
     Ok(replace_of(alloc, fields, groups, ids, texts))
 }
 
@@ -321,16 +274,6 @@ pub(crate) fn status_request(
     ensures says { IfOk result (IsStatus fields.now) }
     ensures readable { IfOk result IsReadableStatus }
 {
-    let texts = [
-        text(fields, 11, &Id),
-        text(fields, 37, &Id),
-        text(fields, 1, &Id),
-        text(fields, 55, &Id),
-        text(fields, 65, &Id),
-        text(fields, 48, &Id),
-        text(fields, 167, &SECURITY_TYPE),
-        text(fields, 207, &Id),
-    ]
-    .try_map(|text| owned(alloc, text))?;
+    let texts = texts_of_status(alloc, fields)?;
     Ok(status_of(alloc, fields, parties, texts))
 }

@@ -1,5 +1,6 @@
 //! The requests of FIX 4.4, each field by its row of the request table.
 
+use dict_fix50::{Cancel50, Status50};
 use order_meaning::{Bytes, Lines};
 use row_values::{Allocs, Maturity, Sessions};
 use typed_fields::{Day, Dec, Flag, Stamp};
@@ -79,44 +80,8 @@ pub struct New44 {
     pub text: Option<Bytes>,
 }
 
-/// A request to cancel an order, Order Cancel Request(F).
-#[derive(Debug, Drop)]
-pub struct Cancel44 {
-    /// Whether it repeats a request that was sent before, PossResend(97).
-    pub resend: bool,
-    /// ClOrdID(11), 1 to 128 bytes.
-    pub cl_ord_id: Bytes,
-    /// OrigClOrdID(41), 1 to 128 bytes.
-    pub orig_id: Bytes,
-    /// OrderID(37), 1 to 128 bytes.
-    pub order_id: Option<Bytes>,
-    /// Parties(453), all lines in their order; PartyIDSource(447) is not kept.
-    pub parties: Lines,
-    /// Account(1), 1 to 128 bytes.
-    pub account: Option<Bytes>,
-    /// Symbol(55), 1 to 128 bytes.
-    pub symbol: Bytes,
-    /// SymbolSfx(65), 1 to 128 bytes.
-    pub symbol_sfx: Option<Bytes>,
-    /// SecurityID(48), 1 to 128 bytes.
-    pub security_id: Option<Bytes>,
-    /// SecurityIDSource(22), `1` to `9`.
-    pub id_source: Option<u8>,
-    /// SecurityType(167), `CS`, `PS` or `FUT`.
-    pub security_type: Option<Bytes>,
-    /// MaturityMonthYear(200), and MaturityDate(541) where it has a day.
-    pub maturity: Option<Maturity>,
-    /// SecurityExchange(207), 1 to 128 bytes.
-    pub security_exchange: Option<Bytes>,
-    /// Side(54), `1` to `6`.
-    pub side: u8,
-    /// TransactTime(60).
-    pub transact_time: Stamp,
-    /// OrderQty(38), not negative.
-    pub order_qty: Option<Dec>,
-    /// Text(58), 1 to 2,048 bytes.
-    pub text: Option<Bytes>,
-}
+/// A request to cancel an order, Order Cancel Request(F), which says what one of FIX 5.0 SP2 says.
+pub type Cancel44 = Cancel50;
 
 /// A request to replace an order, Order Cancel/Replace Request(G).
 #[derive(Debug, Drop)]
@@ -197,36 +162,8 @@ pub struct Replace44 {
     pub text: Option<Bytes>,
 }
 
-/// A request for the state of an order, Order Status Request(H).
-#[derive(Debug, Drop)]
-pub struct Status44 {
-    /// Whether it repeats a request that was sent before, PossResend(97).
-    pub resend: bool,
-    /// ClOrdID(11), 1 to 128 bytes.
-    pub cl_ord_id: Bytes,
-    /// OrderID(37), 1 to 128 bytes.
-    pub order_id: Option<Bytes>,
-    /// Parties(453), all lines in their order; PartyIDSource(447) is not kept.
-    pub parties: Lines,
-    /// Account(1), 1 to 128 bytes.
-    pub account: Option<Bytes>,
-    /// Symbol(55), 1 to 128 bytes.
-    pub symbol: Bytes,
-    /// SymbolSfx(65), 1 to 128 bytes.
-    pub symbol_sfx: Option<Bytes>,
-    /// SecurityID(48), 1 to 128 bytes.
-    pub security_id: Option<Bytes>,
-    /// SecurityIDSource(22), `1` to `9`.
-    pub id_source: Option<u8>,
-    /// SecurityType(167), `CS`, `PS` or `FUT`.
-    pub security_type: Option<Bytes>,
-    /// MaturityMonthYear(200), and MaturityDate(541) where it has a day.
-    pub maturity: Option<Maturity>,
-    /// SecurityExchange(207), 1 to 128 bytes.
-    pub security_exchange: Option<Bytes>,
-    /// Side(54), `1` to `6`.
-    pub side: u8,
-}
+/// A request for the state of an order, Order Status Request(H), likewise.
+pub type Status44 = Status50;
 
 /// A request of FIX 4.4.
 #[derive(Debug, Drop)]
