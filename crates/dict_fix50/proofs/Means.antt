@@ -1,5 +1,5 @@
 -- What is read of fields at no fault is their message, row by row.
-use Rattle.std.proofs.Common.{◌≡◌, List, [], ◌∷◌, Bool, true, false, Some, None, refl, lit<}
+use Rattle.std.proofs.Common.{◌≡◌, ℕ, List, [], ◌∷◌, Bool, true, false, Some, None, refl, lit<}
 use Rattle.std.specs.Prelude.{IsSome, if◌then◌else◌}
 use Rattle.field_groups.specs.Field.{Field}
 use Rattle.message_tables.specs.Tables.{Place, Said, Table, Tag, first_of, is_place}
@@ -10,9 +10,9 @@ use Rattle.row_values.proofs.ByTable.{says_parties, says_allocs, says_sessions}
 use Rattle.row_values.proofs.ReadRows.{read_message}
 use Rattle.rows_fix50.specs.Header.{table, completed, month_by}
 use Rattle.rows_fix50.proofs.Roles.{of_role}
-use Rattle.dict_fix50.specs.declared.requests.New50.{New50}
+use Rattle.dict_fix50.specs.declared.requests.New.{New}
 use Rattle.dict_fix50.specs.declared.requests.Cancel50.{Cancel50}
-use Rattle.dict_fix50.specs.declared.requests.Replace50.{Replace50}
+use Rattle.dict_fix50.specs.declared.requests.Replace.{Replace}
 use Rattle.dict_fix50.specs.declared.requests.Status50.{Status50}
 use Rattle.dict_fix50.specs.Requests.{new_order, cancel_request, replace_request, status_request}
 use Rattle.dict_fix50.specs.Said.{new_says, cancel_says, replace_says, status_says}
@@ -48,7 +48,7 @@ module _ (fields : List Field) where
   date_in t = said_at (message_in judge t fields).cells (Tag 541)
 
   -- WHAT IS READ IS THE MESSAGE of the fields: one lemma for each type.
-  pub new_means : first_fault judge new_table fields ≡ None → (m : New50) → IsNew fields m
+  pub new_means : first_fault judge new_table fields ≡ None → (m : New ℕ) → IsNew fields m
       → new_says m ≡ completed (message_in judge new_table fields)
   unfolding first_of
   new_means h m w =
@@ -78,7 +78,7 @@ module _ (fields : List Field) where
       (λ i. (453, lines i) ∷ [])
 
   pub replace_means : first_fault judge replace_table fields ≡ None
-      → (m : Replace50) → IsReplace fields m
+      → (m : Replace ℕ) → IsReplace fields m
       → replace_says m ≡ completed (message_in judge replace_table fields)
   unfolding first_of
   replace_means h m w =

@@ -5,14 +5,14 @@ use Rattle.typed_fields.specs.Dec.{IsDec}
 use Rattle.typed_fields.specs.Day.{IsDay}
 use Rattle.typed_fields.specs.Stamp.{IsStamp}
 use Rattle.row_values.specs.Lines.{IsReadableMaturity, AreReadableParties, AreReadableAllocs}
-use Rattle.dict_fix50.specs.declared.requests.New50.{New50}
+use Rattle.dict_fix50.specs.declared.requests.New.{New}
 use Rattle.dict_fix50.specs.declared.requests.Cancel50.{Cancel50}
-use Rattle.dict_fix50.specs.declared.requests.Replace50.{Replace50}
+use Rattle.dict_fix50.specs.declared.requests.Replace.{Replace}
 use Rattle.dict_fix50.specs.declared.requests.Status50.{Status50}
 use Rattle.dict_fix50.specs.declared.requests.Msg50.{Msg50}
 use Rattle.dict_fix50.specs.declared.requests.Msg50.TheVariants as messages
 
-pub record IsReadableNew (m : New50) : Type 0 where
+pub record IsReadableNew {HandInst : Type 0} (m : New HandInst) : Type 0 where
   pub parties : AreReadableParties m.parties
   pub allocs : AreReadableAllocs m.allocs
   pub settl_date : IfSome m.settl_date IsDay
@@ -33,7 +33,7 @@ pub record IsReadableCancel (m : Cancel50) : Type 0 where
   pub transact_time : IsStamp m.transact_time
   pub order_qty : IfSome m.order_qty IsDec
 
-pub record IsReadableReplace (m : Replace50) : Type 0 where
+pub record IsReadableReplace {HandInst : Type 0} (m : Replace HandInst) : Type 0 where
   pub parties : AreReadableParties m.parties
   pub allocs : AreReadableAllocs m.allocs
   pub settl_date : IfSome m.settl_date IsDay

@@ -1,14 +1,14 @@
 -- Inside: requests that say at each row what the fields say.
-use Rattle.std.specs.Prelude.{List, [], ◌∷◌, codes}
+use Rattle.std.specs.Prelude.{ℕ, List, [], ◌∷◌, codes}
 use Rattle.value_kinds.specs.ValueKind.{Id, Text, Word, Currency, Codes}
 use Rattle.field_groups.specs.Field.{Field}
 use Rattle.message_tables.specs.FirstFault.{message_in}
 use Rattle.message_tables.specs.Tables.{Item, Message, Said}
 use Rattle.rows_fix50.specs.Header.{completed, table}
 use Rattle.dict_fix50.specs.declared.groups.Groups.{Groups}
-use Rattle.dict_fix50.specs.declared.requests.New50.{New50}
+use Rattle.dict_fix50.specs.declared.requests.New.{New}
 use Rattle.dict_fix50.specs.declared.requests.Cancel50.{Cancel50}
-use Rattle.dict_fix50.specs.declared.requests.Replace50.{Replace50}
+use Rattle.dict_fix50.specs.declared.requests.Replace.{Replace}
 use Rattle.dict_fix50.specs.declared.requests.Status50.{Status50}
 use Rattle.dict_fix50.specs.Requests.{new_order, cancel_request, replace_request, status_request}
 use Rattle.dict_fix50.specs.Said.{new_says, cancel_says, replace_says, status_says}
@@ -31,7 +31,7 @@ abbrev IsReadBy : List (Item Kind) → List Field → Message → Type 0
 IsReadBy items fields m =
     IsRead items (completed (message_in judge (table m.letter items) fields)) m
 
-pub record IsNew (fields : List Field) (m : New50) : Type 0 where
+pub record IsNew (fields : List Field) (m : New ℕ) : Type 0 where
   pub read : IsReadBy new_order fields (new_says m)
   pub parties : AreParties fields m.parties
   pub allocs : AreAllocs fields m.allocs
@@ -41,7 +41,7 @@ pub record IsCancel (fields : List Field) (m : Cancel50) : Type 0 where
   pub read : IsReadBy cancel_request fields (cancel_says m)
   pub parties : AreParties fields m.parties
 
-pub record IsReplace (fields : List Field) (m : Replace50) : Type 0 where
+pub record IsReplace (fields : List Field) (m : Replace ℕ) : Type 0 where
   pub read : IsReadBy replace_request fields (replace_says m)
   pub parties : AreParties fields m.parties
   pub allocs : AreAllocs fields m.allocs

@@ -1,5 +1,5 @@
 -- Own: what the structs of the requests of FIX 5.0 SP2 say, row by row of the request table.
-use Rattle.std.specs.Prelude.{[], ◌∷◌, map, Some}
+use Rattle.std.specs.Prelude.{ℕ, [], ◌∷◌, map, Some}
 use Rattle.std.specs.Prelude.{option_and_then}
 use Rattle.std.specs.Option.{option_map}
 use Rattle.typed_fields.specs.Dec.{dec_text}
@@ -7,19 +7,20 @@ use Rattle.typed_fields.specs.Day.{day_text}
 use Rattle.typed_fields.specs.Stamp.{stamp_text}
 use Rattle.typed_fields.specs.Flag.{flag_text}
 use Rattle.value_kinds.specs.ValueKind.{code_text}
-use Rattle.message_tables.specs.Tables.{Tag, Role, Message}
+use Rattle.message_tables.specs.Tables.{Tag, Role, Said, Message}
 use Rattle.row_values.specs.Lines.{month_text, party_cells, alloc_cells, session_cells, date_text}
 use Rattle.rows_fix50.specs.Meaning.{id_of}
-use Rattle.dict_fix50.specs.declared.requests.New50.{New50}
+use Rattle.dict_fix50.specs.declared.requests.New.{New}
 use Rattle.dict_fix50.specs.declared.requests.Cancel50.{Cancel50}
-use Rattle.dict_fix50.specs.declared.requests.Replace50.{Replace50}
+use Rattle.dict_fix50.specs.declared.requests.Replace.{Replace}
 use Rattle.dict_fix50.specs.declared.requests.Status50.{Status50}
 use Rattle.dict_fix50.specs.declared.requests.Msg50.{Msg50}
 use Rattle.dict_fix50.specs.declared.requests.Msg50.TheVariants as messages
 
--- what a new order says
-abbrev pub new_says : New50 → Message
-new_says m = record {
+-- what a new order says, of which HandlInst says this and max floor stands at this tag
+abbrev pub ordered_says : {HandInst : Type 0} → (HandInst → Said) → ℕ → New HandInst
+    → Message
+ordered_says inst floor m = record {
   letter = 68;
   resend = m.resend;
   cells =
@@ -30,10 +31,10 @@ new_says m = record {
       (Tag 1, m.account) ∷
       (Tag 63, option_map code_text m.settl_type) ∷
       (Tag 64, option_map day_text m.settl_date) ∷
-      (Tag 21, Some (code_text m.hand_inst)) ∷
+      (Tag 21, inst m.hand_inst) ∷
       (Tag 18, m.exec_inst) ∷
       (Tag 110, option_map dec_text m.min_qty) ∷
-      (Tag 1138, option_map dec_text m.max_floor) ∷
+      (Tag floor, option_map dec_text m.max_floor) ∷
       (Tag 100, m.ex_destination) ∷
       (Tag 55, Some m.symbol) ∷
       (Tag 65, m.symbol_sfx) ∷
@@ -62,6 +63,9 @@ new_says m = record {
   groups = (453, map party_cells m.parties) ∷ (78, map alloc_cells m.allocs)
       ∷ (386, map session_cells m.sessions) ∷ [];
 }
+
+abbrev pub new_says : New ℕ → Message
+new_says m = ordered_says (λ code. Some (code_text code)) 1138 m
 
 -- what a cancel request says
 abbrev pub cancel_says : Cancel50 → Message
@@ -92,8 +96,9 @@ cancel_says m = record {
 }
 
 -- what a replace request says
-abbrev pub replace_says : Replace50 → Message
-replace_says m = record {
+abbrev pub replaced_says : {HandInst : Type 0} → (HandInst → Said) → ℕ → Replace HandInst
+    → Message
+replaced_says inst floor m = record {
   letter = 71;
   resend = m.resend;
   cells =
@@ -106,10 +111,10 @@ replace_says m = record {
       (Tag 1, m.account) ∷
       (Tag 63, option_map code_text m.settl_type) ∷
       (Tag 64, option_map day_text m.settl_date) ∷
-      (Tag 21, Some (code_text m.hand_inst)) ∷
+      (Tag 21, inst m.hand_inst) ∷
       (Tag 18, m.exec_inst) ∷
       (Tag 110, option_map dec_text m.min_qty) ∷
-      (Tag 1138, option_map dec_text m.max_floor) ∷
+      (Tag floor, option_map dec_text m.max_floor) ∷
       (Tag 100, m.ex_destination) ∷
       (Tag 55, Some m.symbol) ∷
       (Tag 65, m.symbol_sfx) ∷
@@ -138,6 +143,9 @@ replace_says m = record {
   groups = (453, map party_cells m.parties) ∷ (78, map alloc_cells m.allocs)
       ∷ (386, map session_cells m.sessions) ∷ [];
 }
+
+abbrev pub replace_says : Replace ℕ → Message
+replace_says m = replaced_says (λ code. Some (code_text code)) 1138 m
 
 -- what a status request says
 abbrev pub status_says : Status50 → Message

@@ -13,4 +13,4 @@ mod writing;
 pub use groups::{Groups, read_groups};
 pub use message::{read50, type50, write50};
 pub use reading::{ids_of_replace, texts_of_cancel, texts_of_order, texts_of_status};
-pub use requests::{Cancel50, Msg50, New50, Replace50, Status50};
+pub use requests::{Cancel50, Msg50, New, New50, Replace, Replace50, Status50};

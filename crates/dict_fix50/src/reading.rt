@@ -12,7 +12,7 @@ ghost use Rattle.dict_fix50.specs.Reading.{IsStatus, cancel_texts, new_texts, re
 ghost use Rattle.dict_fix50.specs.Reading.{status_texts};
 
 use crate::groups::Groups;
-use crate::requests::{Cancel50, New50, Replace50, Status50};
+use crate::requests::{Cancel50, New, New50, Replace, Replace50, Status50};
 use crate::values::capacity;
 use field_groups::Fields;
 use order_meaning::{Bytes, Lines};
@@ -152,7 +152,7 @@ fn new_of(alloc: Global, fields: &Fields<'_>, groups: Groups, texts: [Option<Byt
     ensures says { IsNew fields.now result }
     ensures readable { IsReadableNew result }
 {
-    order!(New50, alloc, fields, groups, texts)
+    order!(New, alloc, fields, groups, texts)
 }
 
 /// The new order of these fields.
@@ -272,7 +272,7 @@ fn replace_of(
 {
     let [orig_id, order_id] = ids;
     let orig_id = or_empty(alloc, orig_id);
-    order!(Replace50, alloc, fields, groups, texts, orig_id, order_id)
+    order!(Replace, alloc, fields, groups, texts, orig_id, order_id)
 }
 
 /// The replace request of these fields.

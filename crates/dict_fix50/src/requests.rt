@@ -1,4 +1,5 @@
-//! The requests of FIX 5.0 SP2, each field by its row of the request table.
+//! The requests of FIX 5.0 SP2, each field by its row of the request table. Those of FIX 4.4 have
+//! the same fields, but for HandlInst(21), which they need not have: its type is a parameter.
 
 use order_meaning::{Bytes, Lines};
 use row_values::{Allocs, Maturity, Sessions};
@@ -6,7 +7,7 @@ use typed_fields::{Day, Dec, Flag, Stamp};
 
 /// A new order, New Order - Single(D).
 #[derive(Debug, Drop)]
-pub struct New50 {
+pub struct New<HandInst> {
     /// Whether it repeats a request that was sent before, PossResend(97).
     pub resend: bool,
     /// ClOrdID(11), 1 to 128 bytes.
@@ -21,13 +22,13 @@ pub struct New50 {
     pub settl_type: Option<u8>,
     /// SettlDate(64).
     pub settl_date: Option<Day>,
-    /// HandlInst(21), `1`, `2` or `3`.
-    pub hand_inst: u8,
+    /// HandlInst(21), `1`, `2` or `3`; in FIX 4.4 none counts as `1`.
+    pub hand_inst: HandInst,
     /// ExecInst(18): of `1` to `6` and `G`, single spaces between.
     pub exec_inst: Option<Bytes>,
     /// MinQty(110), not negative.
     pub min_qty: Option<Dec>,
-    /// DisplayQty(1138), not negative; MaxFloor of FIX 4.2.
+    /// DisplayQty(1138), not negative; MaxFloor(111) of FIX 4.2 and FIX 4.4.
     pub max_floor: Option<Dec>,
     /// ExDestination(100), 1 to 128 bytes.
     pub ex_destination: Option<Bytes>,
@@ -55,7 +56,7 @@ pub struct New50 {
     pub transact_time: Stamp,
     /// OrderQty(38), not negative.
     pub order_qty: Dec,
-    /// OrdType(40), `1` to `4`.
+    /// OrdType(40), `1` to `4`; in FIX 4.4 also `5` and `B`.
     pub ord_type: u8,
     /// Price(44).
     pub price: Option<Dec>,
@@ -63,7 +64,7 @@ pub struct New50 {
     pub stop_px: Option<Dec>,
     /// Currency(15), three capital letters.
     pub currency: Option<Bytes>,
-    /// TimeInForce(59), `0` to `6`, and `7` where OrdType(40) is `1` or `2`.
+    /// TimeInForce(59), `0` to `6`, and `7` where OrdType(40) is `1` or `2`; in FIX 4.4 `0` to `7`.
     pub time_in_force: Option<u8>,
     /// EffectiveTime(168).
     pub effective_time: Option<Stamp>,
@@ -71,7 +72,7 @@ pub struct New50 {
     pub expire_date: Option<Day>,
     /// ExpireTime(126).
     pub expire_time: Option<Stamp>,
-    /// OrderCapacity(528), `A`, `I` or `P`.
+    /// OrderCapacity(528), `A`, `I` or `P`; in FIX 4.4 any byte.
     pub capacity: Option<u8>,
     /// PositionEffect(77), `O` or `C`.
     pub open_close: Option<u8>,
@@ -120,7 +121,7 @@ pub struct Cancel50 {
 
 /// A request to replace an order, Order Cancel/Replace Request(G).
 #[derive(Debug, Drop)]
-pub struct Replace50 {
+pub struct Replace<HandInst> {
     /// Whether it repeats a request that was sent before, PossResend(97).
     pub resend: bool,
     /// ClOrdID(11), 1 to 128 bytes.
@@ -139,13 +140,13 @@ pub struct Replace50 {
     pub settl_type: Option<u8>,
     /// SettlDate(64).
     pub settl_date: Option<Day>,
-    /// HandlInst(21), `1`, `2` or `3`.
-    pub hand_inst: u8,
+    /// HandlInst(21), `1`, `2` or `3`; in FIX 4.4 none counts as `1`.
+    pub hand_inst: HandInst,
     /// ExecInst(18): of `1` to `6` and `G`, single spaces between.
     pub exec_inst: Option<Bytes>,
     /// MinQty(110), not negative.
     pub min_qty: Option<Dec>,
-    /// DisplayQty(1138), not negative; MaxFloor of FIX 4.2.
+    /// DisplayQty(1138), not negative; MaxFloor(111) of FIX 4.2 and FIX 4.4.
     pub max_floor: Option<Dec>,
     /// ExDestination(100), 1 to 128 bytes.
     pub ex_destination: Option<Bytes>,
@@ -173,7 +174,7 @@ pub struct Replace50 {
     pub transact_time: Stamp,
     /// OrderQty(38), not negative.
     pub order_qty: Dec,
-    /// OrdType(40), `1` to `4`.
+    /// OrdType(40), `1` to `4`; in FIX 4.4 also `5` and `B`.
     pub ord_type: u8,
     /// Price(44).
     pub price: Option<Dec>,
@@ -181,7 +182,7 @@ pub struct Replace50 {
     pub stop_px: Option<Dec>,
     /// Currency(15), three capital letters.
     pub currency: Option<Bytes>,
-    /// TimeInForce(59), `0` to `6`, and `7` where OrdType(40) is `1` or `2`.
+    /// TimeInForce(59), `0` to `6`, and `7` where OrdType(40) is `1` or `2`; in FIX 4.4 `0` to `7`.
     pub time_in_force: Option<u8>,
     /// EffectiveTime(168).
     pub effective_time: Option<Stamp>,
@@ -189,7 +190,7 @@ pub struct Replace50 {
     pub expire_date: Option<Day>,
     /// ExpireTime(126).
     pub expire_time: Option<Stamp>,
-    /// OrderCapacity(528), `A`, `I` or `P`.
+    /// OrderCapacity(528), `A`, `I` or `P`; in FIX 4.4 any byte.
     pub capacity: Option<u8>,
     /// PositionEffect(77), `O` or `C`.
     pub open_close: Option<u8>,
@@ -227,6 +228,12 @@ pub struct Status50 {
     /// Side(54), `1` to `6`.
     pub side: u8,
 }
+
+/// New Order - Single(D) of FIX 5.0 SP2.
+pub type New50 = New<u8>;
+
+/// Order Cancel/Replace Request(G) of FIX 5.0 SP2.
+pub type Replace50 = Replace<u8>;
 
 /// An order message of FIX 5.0 SP2.
 #[derive(Debug, Drop)]

@@ -1,5 +1,5 @@
 -- What is read of fields at no fault is their message, row by row.
-use Rattle.std.proofs.Common.{◌≡◌, List, [], ◌∷◌, Bool, true, false, Some, None, refl, lit<}
+use Rattle.std.proofs.Common.{◌≡◌, ℕ, Option, List, [], ◌∷◌, Bool, true, false, Some, None, refl, lit<}
 use Rattle.std.specs.Prelude.{IsSome, if◌then◌else◌}
 use Rattle.field_groups.specs.Field.{Field}
 use Rattle.message_tables.specs.Tables.{Place, Said, Table, Tag, first_of, is_place}
@@ -11,9 +11,9 @@ use Rattle.row_values.proofs.ReadRows.{read_message}
 use Rattle.rows_fix42.specs.Header.{table}
 use Rattle.rows_fix50.specs.Header.{completed, month_by}
 use Rattle.rows_fix50.proofs.Roles.{of_role}
-use Rattle.requests_fix44.specs.declared.requests.New44.{New44}
+use Rattle.dict_fix50.specs.declared.requests.New.{New}
 use Rattle.dict_fix50.specs.declared.requests.Cancel50.{Cancel50}
-use Rattle.requests_fix44.specs.declared.requests.Replace44.{Replace44}
+use Rattle.dict_fix50.specs.declared.requests.Replace.{Replace}
 use Rattle.dict_fix50.specs.declared.requests.Status50.{Status50}
 use Rattle.dict_fix44.specs.Requests.{new_order, cancel_request, replace_request, status_request}
 use Rattle.dict_fix50.specs.Said.{cancel_says, status_says}
@@ -50,7 +50,7 @@ module _ (fields : List Field) where
   date_in t = said_at (message_in judge t fields).cells (Tag 541)
 
   -- WHAT IS READ IS THE MESSAGE of the fields: one lemma for each type.
-  pub new_means : first_fault judge new_table fields ≡ None → (m : New44) → IsNew fields m
+  pub new_means : first_fault judge new_table fields ≡ None → (m : New (Option ℕ)) → IsNew fields m
       → new_says m ≡ completed (message_in judge new_table fields)
   unfolding first_of
   new_means h m w =
@@ -80,7 +80,7 @@ module _ (fields : List Field) where
       (λ i. (453, lines i) ∷ [])
 
   pub replace_means : first_fault judge replace_table fields ≡ None
-      → (m : Replace44) → IsReplace fields m
+      → (m : Replace (Option ℕ)) → IsReplace fields m
       → replace_says m ≡ completed (message_in judge replace_table fields)
   unfolding first_of
   replace_means h m w =

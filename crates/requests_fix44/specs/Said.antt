@@ -1,114 +1,20 @@
--- Own: what the structs of the requests of FIX 4.4 say, row by row of the request table.
-use Rattle.std.specs.Prelude.{[], ◌∷◌, map, Some}
-use Rattle.std.specs.Prelude.{option_and_then}
+-- Own: what the requests of FIX 4.4 say, row by row of the request table: their max floor is
+-- MaxFloor (111), and HandlInst may be missing.
+use Rattle.std.specs.Prelude.{ℕ, Option}
 use Rattle.std.specs.Option.{option_map}
-use Rattle.typed_fields.specs.Dec.{dec_text}
-use Rattle.typed_fields.specs.Day.{day_text}
-use Rattle.typed_fields.specs.Stamp.{stamp_text}
-use Rattle.typed_fields.specs.Flag.{flag_text}
 use Rattle.value_kinds.specs.ValueKind.{code_text}
-use Rattle.message_tables.specs.Tables.{Tag, Role, Message}
-use Rattle.row_values.specs.Lines.{month_text, party_cells, alloc_cells, session_cells, date_text}
-use Rattle.rows_fix50.specs.Meaning.{id_of}
-use Rattle.dict_fix50.specs.Said.{cancel_says, status_says}
-use Rattle.requests_fix44.specs.declared.requests.New44.{New44}
-use Rattle.requests_fix44.specs.declared.requests.Replace44.{Replace44}
+use Rattle.message_tables.specs.Tables.{Message}
+use Rattle.dict_fix50.specs.Said.{cancel_says, ordered_says, replaced_says, status_says}
+use Rattle.dict_fix50.specs.declared.requests.New.{New}
+use Rattle.dict_fix50.specs.declared.requests.Replace.{Replace}
 use Rattle.requests_fix44.specs.declared.requests.Msg44.{Msg44}
 use Rattle.requests_fix44.specs.declared.requests.Msg44.TheVariants as messages
 
--- what a new order says
-abbrev pub new_says : New44 → Message
-new_says m = record {
-  letter = 68;
-  resend = m.resend;
-  cells =
-      (Tag 11, Some m.cl_ord_id) ∷
-      (Role 3, id_of 3 m.parties) ∷
-      (Role 1, id_of 1 m.parties) ∷
-      (Role 4, id_of 4 m.parties) ∷
-      (Tag 1, m.account) ∷
-      (Tag 63, option_map code_text m.settl_type) ∷
-      (Tag 64, option_map day_text m.settl_date) ∷
-      (Tag 21, option_map code_text m.hand_inst) ∷
-      (Tag 18, m.exec_inst) ∷
-      (Tag 110, option_map dec_text m.min_qty) ∷
-      (Tag 111, option_map dec_text m.max_floor) ∷
-      (Tag 100, m.ex_destination) ∷
-      (Tag 55, Some m.symbol) ∷
-      (Tag 65, m.symbol_sfx) ∷
-      (Tag 48, m.security_id) ∷
-      (Tag 22, option_map code_text m.id_source) ∷
-      (Tag 167, m.security_type) ∷
-      (Tag 200, option_map month_text m.maturity) ∷
-      (Tag 541, option_and_then date_text m.maturity) ∷
-      (Tag 207, m.security_exchange) ∷
-      (Tag 54, Some (code_text m.side)) ∷
-      (Tag 114, option_map flag_text m.locate) ∷
-      (Tag 60, Some (stamp_text m.transact_time)) ∷
-      (Tag 38, Some (dec_text m.order_qty)) ∷
-      (Tag 40, Some (code_text m.ord_type)) ∷
-      (Tag 44, option_map dec_text m.price) ∷
-      (Tag 99, option_map dec_text m.stop_px) ∷
-      (Tag 15, m.currency) ∷
-      (Tag 59, option_map code_text m.time_in_force) ∷
-      (Tag 168, option_map stamp_text m.effective_time) ∷
-      (Tag 432, option_map day_text m.expire_date) ∷
-      (Tag 126, option_map stamp_text m.expire_time) ∷
-      (Tag 528, option_map code_text m.capacity) ∷
-      (Tag 77, option_map code_text m.open_close) ∷
-      (Tag 58, m.text) ∷
-      [];
-  groups = (453, map party_cells m.parties) ∷ (78, map alloc_cells m.allocs)
-      ∷ (386, map session_cells m.sessions) ∷ [];
-}
+abbrev pub new_says : New (Option ℕ) → Message
+new_says m = ordered_says (option_map code_text) 111 m
 
--- what a replace request says
-abbrev pub replace_says : Replace44 → Message
-replace_says m = record {
-  letter = 71;
-  resend = m.resend;
-  cells =
-      (Tag 11, Some m.cl_ord_id) ∷
-      (Tag 41, Some m.orig_id) ∷
-      (Tag 37, m.order_id) ∷
-      (Role 3, id_of 3 m.parties) ∷
-      (Role 1, id_of 1 m.parties) ∷
-      (Role 4, id_of 4 m.parties) ∷
-      (Tag 1, m.account) ∷
-      (Tag 63, option_map code_text m.settl_type) ∷
-      (Tag 64, option_map day_text m.settl_date) ∷
-      (Tag 21, option_map code_text m.hand_inst) ∷
-      (Tag 18, m.exec_inst) ∷
-      (Tag 110, option_map dec_text m.min_qty) ∷
-      (Tag 111, option_map dec_text m.max_floor) ∷
-      (Tag 100, m.ex_destination) ∷
-      (Tag 55, Some m.symbol) ∷
-      (Tag 65, m.symbol_sfx) ∷
-      (Tag 48, m.security_id) ∷
-      (Tag 22, option_map code_text m.id_source) ∷
-      (Tag 167, m.security_type) ∷
-      (Tag 200, option_map month_text m.maturity) ∷
-      (Tag 541, option_and_then date_text m.maturity) ∷
-      (Tag 207, m.security_exchange) ∷
-      (Tag 54, Some (code_text m.side)) ∷
-      (Tag 114, option_map flag_text m.locate) ∷
-      (Tag 60, Some (stamp_text m.transact_time)) ∷
-      (Tag 38, Some (dec_text m.order_qty)) ∷
-      (Tag 40, Some (code_text m.ord_type)) ∷
-      (Tag 44, option_map dec_text m.price) ∷
-      (Tag 99, option_map dec_text m.stop_px) ∷
-      (Tag 15, m.currency) ∷
-      (Tag 59, option_map code_text m.time_in_force) ∷
-      (Tag 168, option_map stamp_text m.effective_time) ∷
-      (Tag 432, option_map day_text m.expire_date) ∷
-      (Tag 126, option_map stamp_text m.expire_time) ∷
-      (Tag 528, option_map code_text m.capacity) ∷
-      (Tag 77, option_map code_text m.open_close) ∷
-      (Tag 58, m.text) ∷
-      [];
-  groups = (453, map party_cells m.parties) ∷ (78, map alloc_cells m.allocs)
-      ∷ (386, map session_cells m.sessions) ∷ [];
-}
+abbrev pub replace_says : Replace (Option ℕ) → Message
+replace_says m = replaced_says (option_map code_text) 111 m
 
 -- WHAT A MESSAGE SAYS
 abbrev pub says : Msg44 → Message

@@ -4,15 +4,17 @@
 //! table is a line of the literal.
 
 ghost use Rattle.std.specs.Prelude.{◌≡◌, IfOk};
-ghost use Rattle.dict_fix50.specs.Readable.{IsReadableCancel, IsReadableStatus};
-ghost use Rattle.requests_fix44.specs.Readable.{IsReadableNew, IsReadableReplace};
+ghost use Rattle.dict_fix50.specs.Readable.{IsReadableCancel, IsReadableNew, IsReadableReplace};
+ghost use Rattle.dict_fix50.specs.Readable.{IsReadableStatus};
 ghost use Rattle.row_values.specs.Groups.{AreParties};
 ghost use Rattle.dict_fix50.specs.Reading.{AreGroups, cancel_texts, new_texts, replace_ids};
 ghost use Rattle.dict_fix50.specs.Reading.{status_texts};
 ghost use Rattle.requests_fix44.specs.Reading.{IsCancel, IsNew, IsReplace, IsStatus};
 
 use crate::requests::{Cancel44, New44, Replace44, Status44};
-use dict_fix50::{Groups, ids_of_replace, texts_of_cancel, texts_of_order, texts_of_status};
+use dict_fix50::{
+    Groups, New, Replace, ids_of_replace, texts_of_cancel, texts_of_order, texts_of_status,
+};
 use field_groups::Fields;
 use order_meaning::{Bytes, Lines};
 use row_values::{
@@ -112,7 +114,7 @@ fn new_of(alloc: Global, fields: &Fields<'_>, groups: Groups, texts: [Option<Byt
     ensures says { IsNew fields.now result }
     ensures readable { IsReadableNew result }
 {
-    order!(New44, alloc, fields, groups, texts)
+    order!(New, alloc, fields, groups, texts)
 }
 
 /// The new order of these fields.
@@ -206,7 +208,7 @@ fn replace_of(
 {
     let [orig_id, order_id] = ids;
     let orig_id = or_empty(alloc, orig_id);
-    order!(Replace44, alloc, fields, groups, texts, orig_id, order_id)
+    order!(Replace, alloc, fields, groups, texts, orig_id, order_id)
 }
 
 /// The replace request of these fields.

@@ -9,8 +9,8 @@ ghost use Rattle.dict_fix44.specs.Requests.{cancel_request, new_order};
 ghost use Rattle.dict_fix44.specs.Requests.{replace_request, status_request};
 ghost use Rattle.dict_fix50.specs.Said.{cancel_says, status_says};
 ghost use Rattle.requests_fix44.specs.Said.{new_says, replace_says};
-ghost use Rattle.dict_fix50.specs.Readable.{IsReadableCancel, IsReadableStatus};
-ghost use Rattle.requests_fix44.specs.Readable.{IsReadableNew, IsReadableReplace};
+ghost use Rattle.dict_fix50.specs.Readable.{IsReadableCancel, IsReadableNew, IsReadableReplace};
+ghost use Rattle.dict_fix50.specs.Readable.{IsReadableStatus};
 
 use crate::requests::{Cancel44, New44, Replace44, Status44};
 use row_values::{Part, Value};
