@@ -53,8 +53,10 @@ fn put_all<B, O: OwnRule<B>>(
     ensures lack { IfErr result (IsLackOf (first_of (lacked O.lacks source.now) rules.now)) }
     ensures kept { StartsWith out.new.items out.old.items }
 {
-    for rule in rules {
+    let mut rest = rules;
+    while let [rule, more @ ..] = rest {
         put_rule(source, rule, out)?;
+        rest = more;
     }
     Ok(())
 }
