@@ -12,7 +12,7 @@ use field_groups::{Fields, Split};
 use frame_grammar::Kind;
 use reports_fix50::ReportTables;
 use std::alloc::{AllocError, Global};
-use translation::{HeadDown, TranslateError, Translating, lacking, msg_type, write_head};
+use translation::{TranslateError, Translating, lacking, msg_type, put_head_down};
 
 /// Appends the content of the report that fields at no fault say.
 #[tactic(auto, using(crate::proofs::Appended::of_put))]
@@ -41,9 +41,13 @@ impl Translating for Down {
         Kind::Fix42
     }
 
-    fn put_head(&self, fields: &Fields<'_>, out: &mut Vec<u8>) -> Result<(), AllocError> {
-        let head = HeadDown { fields };
-        write_head(head.msg_type(), &head, out)
+    fn put_head(
+        &self,
+        body: &[u8],
+        fields: &Fields<'_>,
+        out: &mut Vec<u8>,
+    ) -> Result<(), AllocError> {
+        put_head_down(body, fields, out)
     }
 
     #[tactic(auto, using(crate::proofs::Appended::of_good_fields))]

@@ -12,7 +12,7 @@ use field_groups::{Fields, Split, split_into};
 use frame_grammar::Kind;
 use request_rules::put_up;
 use std::alloc::{AllocError, Global};
-use translation::{TranslateError, Translating, lacking, msg_type, translate, write_head};
+use translation::{TranslateError, Translating, lacking, put_head_up, translate};
 
 /// What translates requests up.
 #[derive(Drop)]
@@ -27,8 +27,13 @@ impl Translating for Up {
         Kind::Fixt11
     }
 
-    fn put_head(&self, fields: &Fields<'_>, out: &mut Vec<u8>) -> Result<(), AllocError> {
-        write_head(msg_type(fields), fields, out)
+    fn put_head(
+        &self,
+        body: &[u8],
+        fields: &Fields<'_>,
+        out: &mut Vec<u8>,
+    ) -> Result<(), AllocError> {
+        put_head_up(body, fields, out)
     }
 
     #[tactic(auto, using(crate::proofs::GoodFields::put))]

@@ -20,7 +20,7 @@ use order_meaning::Fault;
 use reports_fix50::ReportTables;
 use std::alloc::{AllocError, Global};
 use translation::{
-    HeadDown, TranslateError, Translating, faulty, lacking, msg_type, translate, write_head,
+    TranslateError, Translating, faulty, lacking, msg_type, put_head_down, put_head_up, translate,
 };
 
 /// The way of a message between a client of FIX 4.4 and its venue.
@@ -119,13 +119,15 @@ impl<'t> Translating for Going<'t> {
         }
     }
 
-    fn put_head(&self, fields: &Fields<'_>, out: &mut Vec<u8>) -> Result<(), AllocError> {
+    fn put_head(
+        &self,
+        body: &[u8],
+        fields: &Fields<'_>,
+        out: &mut Vec<u8>,
+    ) -> Result<(), AllocError> {
         match self.way {
-            Way::Up => write_head(msg_type(fields), fields, out),
-            Way::Down => {
-                let head = HeadDown { fields };
-                write_head(head.msg_type(), &head, out)
-            }
+            Way::Up => put_head_up(body, fields, out),
+            Way::Down => put_head_down(body, fields, out),
         }
     }
 

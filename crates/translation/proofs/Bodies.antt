@@ -11,7 +11,7 @@ use Rattle.translation.specs.declared.error.TranslateError.TheVariants as errors
 use Rattle.translation.specs.Header.{type_of, carried, carried_field, carried_tags, with_content}
 use Rattle.translation.specs.Writing.{put, AreWithin, IsTooMuch, IsWritten, IsUnwritten}
 
-put_is : (f : ℕ → List Field) (start : List ℕ) (tags : List ℕ)
+pub put_is : (f : ℕ → List Field) (start : List ℕ) (tags : List ℕ)
     → put f start tags ≡ start ++ body_of (flat_map f tags)
 put_is f start [] = sym (append-nil start)
 put_is f start (tag ∷ tags) =

@@ -2,6 +2,7 @@ pub mod BehindHeader
 pub mod Bodies
 pub mod CarriedDown
 pub mod CarriedHeader
+pub mod FrontHeader
 pub mod Going
 pub mod Kept
 pub mod Outcomes

@@ -33,6 +33,10 @@ carried_down tag value =
 abbrev pub head_down : List Field → List Field
 head_down fields = map (λ field. (field.0, carried_down field.0 field.1)) fields
 
+-- MsgType, and those of the header
+abbrev pub header : List Field → List Field
+header fields = (35, type_of fields) ∷ carried fields
+
 -- the fields that stand for these: MsgType, those of the header, and then a content
 abbrev pub with_content : List Field → List Field → List Field
 with_content fields written = (35, type_of fields) ∷ carried fields ++ written

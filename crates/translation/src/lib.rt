@@ -8,6 +8,6 @@ mod lengths;
 mod translating;
 
 pub use error::{TranslateError, faulty, lacking};
-pub use head::{HeadDown, msg_type, write_head};
+pub use head::{HeadDown, msg_type, put_head_down, put_head_up};
 pub use lengths::MAX_CONTENT;
 pub use translating::{Translating, translate};

@@ -1,7 +1,7 @@
 //! From a body to the frame of its translation, whatever the direction.
 
 ghost use Rattle.std.specs.Prelude.{◌≡◌, ◌++◌, ℕ, List, IfErr, OnErr, OnOk};
-ghost use Rattle.field_groups.specs.Field.{field_bytes};
+ghost use Rattle.field_groups.specs.Field.{body_of, field_bytes};
 ghost use Rattle.translation.specs.Bodies.{Direction, IsRefused, IsTranslation};
 ghost use Rattle.translation.specs.Going.{Appends, IsFair, IsOtherOf, Refuses, StayBack};
 ghost use Rattle.translation.specs.Header.{carried_field, carried_tags, type_of};
@@ -22,12 +22,18 @@ pub trait Translating {
     fn kind(&self) -> Kind
         ensures { result ≡ (course self.now).kind };
 
-    /// Appends MsgType(35) and the header that goes with it.
+    /// Appends MsgType(35) and the header that goes with it, of a body that begins with the fields.
     ///
     /// # Errors
     ///
     /// `AllocError` for want of memory; then a part of the header may stand at the end of `out`.
-    fn put_head(&self, fields: &Fields<'_>, out: &mut Vec<u8>) -> Result<(), AllocError>
+    fn put_head(
+        &self,
+        body: &[u8],
+        fields: &Fields<'_>,
+        out: &mut Vec<u8>,
+    ) -> Result<(), AllocError>
+        requires { (left : List ℕ) × (body.now ≡ body_of fields.now ++ left) }
         ensures { OnOk result (out.new.items
             ≡ put_tags (carried_field ((course self.now).head fields.now)) (out.old.items
             ++ field_bytes (35, type_of ((course self.now).head fields.now))) carried_tags) };
@@ -54,16 +60,18 @@ pub trait Translating {
 #[tactic(auto, using(crate::proofs::Going::grows))]
 fn write<T: Translating>(
     by: &T,
+    body: &[u8],
     split: &Split<'_>,
     other: &mut Vec<u8>,
 ) -> Result<(), TranslateError>
+    requires { (left : List ℕ) × (body.now ≡ body_of split.now.fields ++ left) }
     ensures ok { OnOk result
         (IsOtherOf (T.course by.now) split.now.fields split.now.fault other.new.items) }
     ensures refused { IfErr result
         (Refuses (T.course by.now) split.now.fields split.now.fault) }
 {
     other.clear();
-    by.put_head(&split.fields, other)?;
+    by.put_head(body, &split.fields, other)?;
     let head = other.len();
     by.put(split, other)?;
     let whole = other.len();
@@ -94,7 +102,7 @@ pub fn translate<T: Translating>(
     by.laws();
     let mut split = Split::new(alloc);
     split_into(body, &mut split)?;
-    write(by, &split, other)?;
+    write(by, body, &split, other)?;
     match write_frame(by.kind(), other, out) {
         Ok(()) => Ok(()),
         Err(FrameError::NoMemory) => Err(TranslateError::NoMemory),
