@@ -8,13 +8,14 @@ use Rattle.message_tables.specs.Tables.{Item, Message, is_one_of, text_in}
 use Rattle.message_tables.specs.FirstFault.{message_of}
 use Rattle.message_tables.specs.Content.{content}
 use Rattle.order_meaning.specs.declared.Side.TheVariants.{Client, Venue}
-use Rattle.order_meaning.specs.Request.{Request, RequestKind, New, Cancel, Replace, Status}
+use Rattle.order_meaning.specs.Request.{Request, RequestKind, New}
 use Rattle.first_faults.specs.Faults.{told}
+use Rattle.row_values.specs.Asked.{letter_of, of_first}
 use Rattle.row_values.specs.Kinds.{Kind, judge}
 use Rattle.rows_fix50.specs.Header.{completed_by, table}
 use Rattle.dict_fix42.specs.Sense.{request42, request_of as asked_in}
 use Rattle.dict_fix50.specs.Message.{message50}
-use Rattle.dict_fix50.specs.Requests.{new_order, cancel_request, replace_request, status_request}
+use Rattle.dict_fix50.specs.Requests.{asked50, items50}
 use Rattle.dict_fix50.specs.Sense.{request50, request_of}
 use Rattle.sound_laws.specs.Sound.{without_resend}
 use Rattle.sound_laws.proofs.Completed.{completed_again}
@@ -23,7 +24,7 @@ use Rattle.sound_laws.proofs.Lookups.{places_apart}
 use Rattle.sound_laws.proofs.Stages.{item_tags}
 use Rattle.sound_laws.proofs.TableFits as fits
 use Rattle.sound_laws.proofs.TableFits.{table_fits}
-use Rattle.request_rules.specs.Canonical.{IsCanonical, IsRequest, News, Cancels, Replaces, Statuses}
+use Rattle.request_rules.specs.Canonical.{IsCanonical, IsRequest}
 use Rattle.message_answers.specs.Chains.{joining}
 use Rattle.message_answers.proofs.SentFields.{AreGiven, request_given}
 use Rattle.book_laws.specs.Heard as heard
@@ -32,14 +33,8 @@ use Rattle.book_laws.proofs.On.{IsOn}
 
 -- ---- what a message asks for
 
-abbrev letter_by : RequestKind → ℕ
-letter_by New = 68
-letter_by Cancel = 70
-letter_by Replace = 71
-letter_by Status = 72
-
 record Asks (m : Message) (r : Request) : Type 0 where
-  letter : m.letter ≡ letter_by r.kind
+  letter : m.letter ≡ letter_of r.kind
   resend : m.resend ≡ r.resend
   id : text_in m.cells 11 ≡ r.cl_ord_id
 
@@ -48,9 +43,7 @@ asks m = by (m.letter == 68) (m.letter == 70) (m.letter == 71) (m.letter == 72) 
   where
     by : (d f g h : Bool) → (m.letter == 68) ≡ d → (m.letter == 70) ≡ f → (m.letter == 71) ≡ g
         → (m.letter == 72) ≡ h
-        → IfSome (if d then Some (asked_in New m) else (if f then Some (asked_in Cancel m) else
-        (if g then Some (asked_in Replace m) else
-        (if h then Some (asked_in Status m) else None)))) (Asks m)
+        → IfSome (of_first d f g h (λ kind. asked_in kind m)) (Asks m)
     by true f g h a b c e =
         record { letter = eqb-true m.letter 68 a; resend = refl; id = refl }
     by false true g h a b c e =
@@ -79,38 +72,35 @@ module _ (letter : ℕ) (items : List (Item Kind)) (fit : table_fits (table lett
 
 module _ (m request : Message) (written : List Field) (means : request50 request ≡ request42 m)
   where
-    by_kind : (letter : ℕ) (kind : RequestKind) → request.letter ≡ letter
-        → letter_by kind ≡ letter → request50 request ≡ Some (request_of kind request)
-        → sort_of (letter ∷ []) true ≡ heard.Request
-        → message_to Venue (letter ∷ []) written ≡ Ok (without_resend request) → AreGiven written
-        → IsOn Client m request written
-    by_kind letter kind own kinds is sort read given =
+    by_kind : (kind : RequestKind) → request.letter ≡ letter_of kind
+        → request50 request ≡ Some (request_of kind request)
+        → sort_of (letter_of kind ∷ []) true ≡ heard.Request
+        → message_to Venue (letter_of kind ∷ []) written ≡ Ok (without_resend request)
+        → AreGiven written → IsOn Client m request written
+    by_kind kind own is sort read given =
         let same : Asks m (request_of kind request) =
         subst (λ (o : Option Request). IfSome o (Asks m)) (sym means ∙ is) (asks m) in
-        let of : m.letter ≡ letter = same.letter ∙ kinds in
-        let letters : m.letter ≡ request.letter = of ∙ sym own in
+        let letters : m.letter ≡ request.letter = same.letter ∙ sym own in
         let id : text_in m.cells 11 ≡ text_in request.cells 11 = same.id in
         record {
-          sort = ap (λ (l : ℕ). sort_of (l ∷ []) true) of ∙ sort;
+          sort = ap (λ (l : ℕ). sort_of (l ∷ []) true) same.letter ∙ sort;
           resend = same.resend;
           id = λ i. if is_one_of joining (letters i) then Some (id i) else None;
           carries = sym means;
           given = given;
-          read = ap (λ (l : ℕ). message_to Venue (l ∷ []) written) of ∙ read;
+          read = ap (λ (l : ℕ). message_to Venue (l ∷ []) written) same.letter ∙ read;
         }
+
+    on_kind : (kind : RequestKind) → IsCanonical (letter_of kind) (items50 kind) request
+        → written ≡ content (asked50 kind) request → AreGiven written
+        → IsOn Client m request written
+    unfolding message50
+    on_kind New c is = by_kind New c.sound.letter (rw c.sound.letter refl) refl
+        (ap (message_to Venue (68 ∷ [])) is ∙ again 68 (items50 New) refl refl request c)
+    on_kind kind c is = by_kind kind c.sound.letter (rw c.sound.letter refl) refl
+        (ap (message_to Venue (letter_of kind ∷ [])) is
+        ∙ again (letter_of kind) (items50 kind) refl refl request c)
 
     -- A REQUEST GOES ON.
     pub request_on : IsRequest request written → IsOn Client m request written
-    unfolding message50
-    request_on (News c is) = by_kind 68 New c.sound.letter refl (rw c.sound.letter refl) refl
-        (ap (message_to Venue (68 ∷ [])) is ∙ again 68 new_order refl refl request c)
-        (request_given request written (News c is))
-    request_on (Cancels c is) = by_kind 70 Cancel c.sound.letter refl (rw c.sound.letter refl) refl
-        (ap (message_to Venue (70 ∷ [])) is ∙ again 70 cancel_request refl refl request c)
-        (request_given request written (Cancels c is))
-    request_on (Replaces c is) = by_kind 71 Replace c.sound.letter refl (rw c.sound.letter refl)
-        refl (ap (message_to Venue (71 ∷ [])) is ∙ again 71 replace_request refl refl request c)
-        (request_given request written (Replaces c is))
-    request_on (Statuses c is) = by_kind 72 Status c.sound.letter refl (rw c.sound.letter refl)
-        refl (ap (message_to Venue (72 ∷ [])) is ∙ again 72 status_request refl refl request c)
-        (request_given request written (Statuses c is))
+    request_on r = on_kind r.kind r.canonical r.is (request_given request written r)

@@ -1,23 +1,17 @@
 -- Standard: FIX 4.2, the types of messages of "Order Messages".
-use Rattle.std.specs.Prelude.{ℕ, List, codes, Some, None, Result, if◌then◌else◌}
-use Rattle.std.specs.declared.option.Option.{Option}
-use Rattle.std.specs.Str.{bytes_eq}
+use Rattle.std.specs.Prelude.{ℕ, List, Option, Result}
 use Rattle.field_groups.specs.declared.fault.SplitFault.{SplitFault}
 use Rattle.field_groups.specs.Field.{Field}
 use Rattle.message_tables.specs.Tables.{Table, Message}
 use Rattle.order_meaning.specs.declared.fault.Fault.{Fault}
+use Rattle.row_values.specs.Asked.{of_type}
 use Rattle.row_values.specs.Kinds.{Kind}
 use Rattle.first_faults.specs.Faults.{message_by}
-use Rattle.rows_fix42.specs.Header.{table}
-use Rattle.dict_fix42.specs.Requests.{new_order, cancel_request, replace_request, status_request}
+use Rattle.dict_fix42.specs.Requests.{asked42}
 
 -- the table of a MsgType
 abbrev pub table_of : List ℕ → Option (Table Kind)
-table_of msg_type =
-    if bytes_eq msg_type (codes "D") then Some (table 68 new_order) else
-    (if bytes_eq msg_type (codes "F") then Some (table 70 cancel_request) else
-    (if bytes_eq msg_type (codes "G") then Some (table 71 replace_request) else
-    (if bytes_eq msg_type (codes "H") then Some (table 72 status_request) else None)))
+table_of msg_type = of_type msg_type asked42
 
 -- THE MESSAGE that a MsgType and the fields of a body are, with the fault that stopped them, if
 -- any; or the first fault.

@@ -2,14 +2,16 @@
 -- (G) and Order Status Request (H). Own: which of their fields and values count, and the order of
 -- writing.
 use Rattle.std.specs.Prelude.{ℕ, List, [], ◌∷◌, codes}
-use Rattle.message_tables.specs.Tables.{Condition, Optional, When, Item}
+use Rattle.message_tables.specs.Tables.{Condition, Optional, When, Item, Table}
 use Rattle.value_kinds.specs.ValueKind.{ValueKind, Flag, OneByte, Id, Code, Codes, Word, Text}
 use Rattle.value_kinds.specs.ValueKind.{Currency, Qty, Price, Stamp, Day, MonthYear}
+use Rattle.order_meaning.specs.Request.{RequestKind, New, Cancel, Replace, Status}
+use Rattle.row_values.specs.Asked.{letter_of}
 use Rattle.row_values.specs.Kinds.{Kind, Value, DayOf}
 use Rattle.row_values.specs.Groups.{allocs, sessions}
 use Rattle.row_values.specs.Columns.{Column, R, O, N, Line, line, field, value, lines}
 use Rattle.row_values.specs.Columns.{of_d, of_f, of_g, of_h}
-use Rattle.rows_fix42.specs.Header.{has_day}
+use Rattle.rows_fix42.specs.Header.{has_day, table}
 
 -- a code or word, which is a fault where it is outside the profile
 abbrev code : ℕ → List ℕ → Column → Column → Column → Column → Line
@@ -80,3 +82,14 @@ replace_request = of_g requests
 
 abbrev pub status_request : List (Item Kind)
 status_request = of_h requests
+
+-- and of what is asked for
+abbrev pub items42 : RequestKind → List (Item Kind)
+items42 New = new_order
+items42 Cancel = cancel_request
+items42 Replace = replace_request
+items42 Status = status_request
+
+-- THE TABLE of what is asked for
+abbrev pub asked42 : RequestKind → Table Kind
+asked42 kind = table (letter_of kind) (items42 kind)

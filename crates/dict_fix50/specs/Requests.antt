@@ -2,13 +2,16 @@
 -- Cancel/Replace Request (G) and Order Status Request (H). Own: which of their fields and values
 -- count.
 use Rattle.std.specs.Prelude.{ℕ, List, [], ◌∷◌, codes}
-use Rattle.message_tables.specs.Tables.{Lenient, Item}
+use Rattle.message_tables.specs.Tables.{Lenient, Item, Table}
 use Rattle.value_kinds.specs.ValueKind.{Flag, Id, Code, Codes, Word, Text, Currency, Qty, Price}
 use Rattle.value_kinds.specs.ValueKind.{FineStamp, Day}
+use Rattle.order_meaning.specs.Request.{RequestKind, New, Cancel, Replace, Status}
+use Rattle.row_values.specs.Asked.{letter_of}
 use Rattle.row_values.specs.Kinds.{Kind, Value, Byte, MonthBeside, TimeBeside}
 use Rattle.row_values.specs.Groups.{parties, allocs, sessions}
 use Rattle.row_values.specs.Columns.{Column, R, O, N, Line, line, field, value, party, lines}
 use Rattle.row_values.specs.Columns.{of_d, of_f, of_g, of_h}
+use Rattle.rows_fix50.specs.Header.{table}
 
 -- a value that is dropped where it is outside the profile and not required
 abbrev code : ℕ → List ℕ → Column → Column → Column → Column → Line
@@ -75,3 +78,14 @@ replace_request = of_g requests
 
 abbrev pub status_request : List (Item Kind)
 status_request = of_h requests
+
+-- and of what is asked for
+abbrev pub items50 : RequestKind → List (Item Kind)
+items50 New = new_order
+items50 Cancel = cancel_request
+items50 Replace = replace_request
+items50 Status = status_request
+
+-- THE TABLE of what is asked for
+abbrev pub asked50 : RequestKind → Table Kind
+asked50 kind = table (letter_of kind) (items50 kind)

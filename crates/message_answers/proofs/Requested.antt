@@ -13,6 +13,8 @@ use Rattle.order_meaning.specs.declared.fault.Lack.{Lack}
 use Rattle.order_meaning.specs.declared.fault.Lack.TheVariants as lacking
 use Rattle.order_chains.specs.declared.item.ChainItem.{ChainItem}
 use Rattle.first_faults.specs.Gives.{Tells}
+use Rattle.order_meaning.specs.Request.{RequestKind, New}
+use Rattle.row_values.specs.Asked.{letter_of}
 use Rattle.row_values.specs.Kinds.{judge}
 use Rattle.dict_fix42.specs.Message.{message42}
 use Rattle.reports_fix42.specs.Message as reports42
@@ -21,7 +23,7 @@ use Rattle.request_rules.specs.Good.{IsRead}
 use Rattle.request_rules.specs.Lack.{lack42}
 use Rattle.request_rules.specs.Put.{IsPut, Lacks as IsLacked}
 use Rattle.request_rules.specs.Rules.{up_content}
-use Rattle.request_rules.specs.Up.{IsRequest42, News, Cancels, Replaces, Statuses}
+use Rattle.request_rules.specs.Up.{IsRequest42}
 use Rattle.request_rules.proofs.GoUp.{read_go_up}
 use Rattle.request_rules.proofs.Sound42.{read_is_sound}
 use Rattle.sound_laws.proofs.PlainFields.{clear_fields}
@@ -42,10 +44,11 @@ use Rattle.message_answers.proofs.Joins.{joins_request}
 use Rattle.message_answers.proofs.ReadShapes.{of_request, type_by}
 
 no_refusal : (m : Message) → IsRequest42 m → is_refusal m ≡ false
-no_refusal m (News s) = ap (λ (l : ℕ). l == 51 || l == 106) s.letter
-no_refusal m (Cancels s) = ap (λ (l : ℕ). l == 51 || l == 106) s.letter
-no_refusal m (Replaces s) = ap (λ (l : ℕ). l == 51 || l == 106) s.letter
-no_refusal m (Statuses s) = ap (λ (l : ℕ). l == 51 || l == 106) s.letter
+no_refusal m r = ap (λ (l : ℕ). l == 51 || l == 106) r.sound.letter ∙ by r.kind
+  where
+    by : (kind : RequestKind) → (letter_of kind == 51 || letter_of kind == 106) ≡ false
+    by New = refl
+    by kind = refl
 
 -- the fields of a split body
 good_fields : (a : GivenAsked) → IsSplit a → AreFields None a.split.now.fields

@@ -8,16 +8,16 @@ use Rattle.field_groups.specs.Field.{Field, AreFields}
 use Rattle.field_groups.proofs.Plain.{plain_are}
 use Rattle.message_tables.specs.Tables.{Message, Table, is_one_of}
 use Rattle.message_tables.specs.Content.{content}
+use Rattle.order_meaning.specs.Request.{RequestKind, New}
 use Rattle.row_values.specs.Kinds.{Kind, judge}
-use Rattle.rows_fix50.specs.Header.{table}
-use Rattle.dict_fix50.specs.Requests.{new_order, cancel_request, replace_request, status_request}
+use Rattle.dict_fix50.specs.Requests.{asked50}
 use Rattle.reports_fix42.specs.Message.{cancel_reject_table, execution_report_table}
 use Rattle.sound_laws.specs.Sound.{IsSound}
 use Rattle.sound_laws.proofs.Each.{neither, not_true}
 use Rattle.sound_laws.proofs.Found.{items_of}
 use Rattle.sound_laws.proofs.PlainFields.{all_of, few_of, has_good_tags, most_of, times}
 use Rattle.sound_laws.proofs.Stages.{AreOf, item_tags}
-use Rattle.request_rules.specs.Canonical.{IsRequest, News, Cancels, Replaces, Statuses}
+use Rattle.request_rules.specs.Canonical.{IsRequest}
 use Rattle.report_rules.specs.Down.{IsId, IsReport42, IsReport50, Rejects42, Reports42, StandsFor}
 use Rattle.report_rules.specs.Rules.{table_at, written}
 use Rattle.report_rules.proofs.GoDown.{goes_down}
@@ -57,16 +57,14 @@ sound_given t m good most behind sound =
 
 -- ---- requests
 
-pub request_given : (m : Message) (fields : List Field) → IsRequest m fields → AreGiven fields
+kind_given : (kind : RequestKind) (m : Message) → IsSound judge (asked50 kind) m
+    → AreGiven (content (asked50 kind) m)
 unfolding is_data_tag times
-request_given m fields (News c is) =
-    subst AreGiven (sym is) (sound_given (table 68 new_order) m refl (lit≤ tt) refl c.sound)
-request_given m fields (Cancels c is) =
-    subst AreGiven (sym is) (sound_given (table 70 cancel_request) m refl (lit≤ tt) refl c.sound)
-request_given m fields (Replaces c is) =
-    subst AreGiven (sym is) (sound_given (table 71 replace_request) m refl (lit≤ tt) refl c.sound)
-request_given m fields (Statuses c is) =
-    subst AreGiven (sym is) (sound_given (table 72 status_request) m refl (lit≤ tt) refl c.sound)
+kind_given New m = sound_given (asked50 New) m refl (lit≤ tt) refl
+kind_given kind m = sound_given (asked50 kind) m refl (lit≤ tt) refl
+
+pub request_given : (m : Message) (fields : List Field) → IsRequest m fields → AreGiven fields
+request_given m fields r = subst AreGiven (sym r.is) (kind_given r.kind m r.canonical.sound)
 
 -- ---- reports
 

@@ -11,10 +11,12 @@ use Rattle.message_tables.specs.Tables.{is_one_of}
 use Rattle.message_tables.specs.FirstFault.{message_of}
 use Rattle.message_tables.specs.Content.{content}
 use Rattle.first_faults.specs.Faults.{told}
-use Rattle.order_meaning.specs.Request.{Request, RequestKind, New, Cancel, Replace, Status}
+use Rattle.order_meaning.specs.Request.{Request, RequestKind, New}
+use Rattle.row_values.specs.Asked.{letter_of, of_letter}
 use Rattle.row_values.specs.Kinds.{Kind, Value, DayOf, judge}
 use Rattle.rows_fix42.specs.Header.{table as table42}
 use Rattle.rows_fix50.specs.Header.{completed_by, month_by, table as table50}
+use Rattle.dict_fix42.specs.Requests.{asked42, items42}
 use Rattle.dict_fix42.specs.Sense as sense42
 use Rattle.dict_fix42.specs.Sense.{request42}
 use Rattle.dict_fix50.specs.Message.{message50}
@@ -26,14 +28,11 @@ use Rattle.sound_laws.proofs.TableFits.{table_fits}
 use Rattle.rule_rows.proofs.Looked.{has_lines_of, says}
 use Rattle.rule_rows.proofs.Sound.{gone}
 use Rattle.request_rules.specs.Canonical.{IsCanonical, IsRequest}
-use Rattle.request_rules.specs.Canonical as canonical
 use Rattle.request_rules.specs.Lack.{lack42, lack_of}
 use Rattle.request_rules.specs.Rules.{at, date_up, kinds, party_lines, up_content, up_lack}
 use Rattle.request_rules.specs.Rules.{up_message, up_rules}
-use Rattle.request_rules.specs.Up.{GoUp, IsOrdinary, IsRequest42, News, Cancels, Replaces, ReadGoUp}
-use Rattle.request_rules.specs.Up.{StandsFor, Statuses}
+use Rattle.request_rules.specs.Up.{GoUp, IsOrdinary, ReadGoUp, StandsFor}
 use Rattle.request_rules.proofs.DatesUp.{month_length, month_first, day_value}
-use Rattle.request_rules.proofs.ByType.{asked, asked42, items42, letter_of}
 use Rattle.request_rules.proofs.KindsUp.{are_kinds, own}
 use Rattle.request_rules.proofs.LacksUp.{lack_is}
 use Rattle.request_rules.proofs.SenseUp.{keeps_sense}
@@ -81,7 +80,7 @@ table_goes kind = search
 -- ---- a message of a table that goes up
 
 module _ (kind : RequestKind)
-    (is : (f : RequestKind → Request) → asked (letter_of kind) f ≡ Some (f kind))
+    (is : (f : RequestKind → Request) → of_letter (letter_of kind) f ≡ Some (f kind))
     (fit : table_fits (table50 (letter_of kind) (items_up (items42 kind))) [] ≡ true)
     (bare : is_one_of (flat_map item_tags (items_up (items42 kind))) 97 ≡ false)
     (m : Message) (sound : IsSound judge (asked42 kind) m)
@@ -108,7 +107,7 @@ module _ (kind : RequestKind)
   no_lack : up_lack m ≡ None
   no_lack =
       let request : request42 m ≡ Some (sense42.request_of kind m) =
-      ap (λ (n : ℕ). asked n (λ k. sense42.request_of k m)) sound.letter
+      ap (λ (n : ℕ). of_letter n (λ k. sense42.request_of k m)) sound.letter
       ∙ is (λ k. sense42.request_of k m) in
       sym (lack_is kind m) ∙ (sym (ap (λ r. r >>= lack_of) request) ∙ lack)
 
@@ -141,19 +140,18 @@ module _ (kind : RequestKind)
         ∙ gone_up.again;
   }
 
--- WHAT GOES UP STANDS FOR A MESSAGE.
-stands_for : (m : Message) → IsRequest42 m → lack42 m ≡ None → StandsFor m
+stands_by : (m : Message) (kind : RequestKind) → IsSound judge (asked42 kind) m → lack42 m ≡ None
+    → StandsFor m
 unfolding message50
-stands_for m (News s) lack = stands New (λ f. refl) refl refl m s lack canonical.News refl
-stands_for m (Cancels s) lack = stands Cancel (λ f. refl) refl refl m s lack canonical.Cancels refl
-stands_for m (Replaces s) lack =
-    stands Replace (λ f. refl) refl refl m s lack canonical.Replaces refl
-stands_for m (Statuses s) lack =
-    stands Status (λ f. refl) refl refl m s lack canonical.Statuses refl
+stands_by m New s lack = stands New (λ f. refl) refl refl m s lack
+    (λ c is. record { kind = New; canonical = c; is = is }) refl
+stands_by m kind s lack = stands kind (λ f. refl) refl refl m s lack
+    (λ c is. record { kind = kind; canonical = c; is = is }) refl
 
+-- WHAT GOES UP STANDS FOR A MESSAGE.
 pub go_up : GoUp
-go_up = stands_for
+go_up m request = stands_by m request.kind request.sound
 
 pub read_go_up : ReadGoUp
-read_go_up msg_type fields m are read lack =
-    stands_for m (read_is_sound fields (clear_fields judge None fields are) msg_type m read) lack
+read_go_up msg_type fields m are read =
+    go_up m (read_is_sound fields (clear_fields judge None fields are) msg_type m read)

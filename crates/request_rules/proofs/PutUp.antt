@@ -9,6 +9,7 @@ use Rattle.message_tables.specs.Tables.{Message, Table, ◌>>=◌, first_of, val
 use Rattle.order_meaning.specs.declared.fault.Lack.{Lack}
 use Rattle.order_meaning.specs.declared.fault.Lack.TheVariants as faults
 use Rattle.order_meaning.specs.Request.{Request, RequestKind, New, Cancel, Replace, Status}
+use Rattle.row_values.specs.Asked.{of_letter}
 use Rattle.row_values.specs.Kinds.{Kind, judge}
 use Rattle.rule_rows.proofs.FieldsSaid.{IsRead, each_read, said_is}
 use Rattle.rule_rows.specs.ByRules.{content_by, outline, outline_of}
@@ -18,6 +19,7 @@ use Rattle.rule_rows.specs.declared.rules.Rule.{Rule as CodeRule}
 use Rattle.rule_rows.specs.CodeRules.{AreRead, IsLackOf, lacked, reading, rule_of, table_of}
 use Rattle.rule_rows.specs.CodeRules.{writes as all_write}
 use Rattle.rule_rows.proofs.Written.{AreSaid, rules_lacked, rules_written}
+use Rattle.dict_fix42.specs.Requests.{asked42}
 use Rattle.dict_fix42.specs.Sense.{request_of}
 use Rattle.request_rules.specs.declared.rules.Own.{Own as CodeOwn}
 use Rattle.request_rules.specs.CodeRules.{Source, code, is_apart, lacks, writes}
@@ -25,7 +27,7 @@ use Rattle.request_rules.specs.Lack.{lack42, lack_of}
 use Rattle.request_rules.specs.Good.{IsTable42}
 use Rattle.request_rules.specs.Put.{IsPut, Lacks}
 use Rattle.request_rules.specs.Rules.{Rule, kinds, rule_lack, up_content, up_lack, up_rules}
-use Rattle.request_rules.proofs.ByType.{asked, asked42, by_type}
+use Rattle.request_rules.proofs.ByType.{by_type}
 use Rattle.request_rules.proofs.LacksUp.{lack_is}
 use Rattle.request_rules.proofs.FieldsUp.{lack_read, own_goes}
 
@@ -40,7 +42,7 @@ pub record IsKnown (table : Table Kind) (kind : RequestKind) : Type 0 where
   pub written : have_written_lines table.items ≡ true
   pub there : (fields : List Field)
       → outline (message_in judge table fields) ≡ outline_of table.items
-  pub request : (f : RequestKind → Request) → asked table.letter f ≡ Some (f kind)
+  pub request : (f : RequestKind → Request) → of_letter table.letter f ≡ Some (f kind)
 
 each : (kind : RequestKind) → IsKnown (asked42 kind) kind
 each New = search

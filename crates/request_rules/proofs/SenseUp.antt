@@ -1,16 +1,17 @@
 -- What goes up by the rules means what it meant.
-use Rattle.std.proofs.Common.{◌≡◌, ℕ, List, [], ◌∷◌, map, Bool, true, false, Option, Some, None}
-use Rattle.std.proofs.Common.{refl, sym, ap, subst, ◌∙◌, codes, unwrap_or, option_map, length}
+use Rattle.std.proofs.Common.{◌≡◌, ℕ, [], ◌∷◌, Bool, true, false, Option, Some, None}
+use Rattle.std.proofs.Common.{refl, sym, ap, subst, ◌∙◌, codes, length}
 use Rattle.std.proofs.lemmas.Bool.{eqb-true}
 use Rattle.std.proofs.lemmas.List.{drop_at}
 use Rattle.std.specs.Prelude.{IfSome, ◌==◌, ◌||◌, if◌then◌else◌, is_some}
 use Rattle.std.specs.Str.Parse.{digits_value}
 use Rattle.value_kinds.specs.ValueKind.{number_of_two}
-use Rattle.message_tables.specs.Tables.{Place, Tag, Role, Said, Message, ◌>>=◌, code_of, flag_of}
-use Rattle.message_tables.specs.Tables.{Cell, lines_of, said_at, first_of, or_else}
+use Rattle.message_tables.specs.Tables.{Place, Tag, Role, Said, Message, ◌>>=◌, code_of}
+use Rattle.message_tables.specs.Tables.{lines_of, said_at, first_of, or_else}
 use Rattle.order_meaning.specs.Request.{Request, RequestKind, New, Cancel, Replace, Status}
-use Rattle.order_meaning.specs.Request.{OrderType, MarketOnClose, LimitOnClose, NeutralMaturity}
-use Rattle.row_values.specs.Amounts.{amount_of, alloc_of, session_of}
+use Rattle.order_meaning.specs.Request.{OrderType, MarketOnClose, LimitOnClose}
+use Rattle.row_values.specs.Amounts.{amount_of}
+use Rattle.row_values.specs.Asked.{of_first, requested_by}
 use Rattle.rows_fix42.specs.Meaning as meaning42
 use Rattle.rows_fix50.specs.Meaning as meaning50
 use Rattle.dict_fix42.specs.Sense as sense42
@@ -117,53 +118,6 @@ module _ (time : Said) (other : IfSome (time >>= code_of) (λ code. (code == 55)
 
 -- ---- any request
 
--- A REQUEST by what is said at the places of FIX 5.0 SP2, and by what is read otherwise
-abbrev pub request_by : RequestKind → (resend : Bool) → (Place → Said)
-    → (ℕ → List (List Cell)) → (inst : Option ℕ) → Option NeutralMaturity → Terms
-    → (capacity : Option ℕ) → Request
-request_by kind resend says lines inst mature term capacity = record {
-  kind = kind;
-  resend = resend;
-  cl_ord_id = unwrap_or (says (Tag 11)) [];
-  orig_id = says (Tag 41);
-  order_id = says (Tag 37);
-  client_id = says (Role 3);
-  exec_broker = says (Role 1);
-  clearing_firm = says (Role 4);
-  account = says (Tag 1);
-  allocs = map alloc_of (lines 78);
-  settl_type = says (Tag 63) >>= code_of;
-  settl_date = says (Tag 64);
-  hand_inst = inst;
-  exec_inst = says (Tag 18);
-  min_qty = says (Tag 110) >>= amount_of;
-  max_floor = says (Tag 1138) >>= amount_of;
-  ex_destination = says (Tag 100);
-  sessions = map session_of (lines 386);
-  symbol = unwrap_or (says (Tag 55)) [];
-  symbol_sfx = says (Tag 65);
-  security_id = says (Tag 48);
-  id_source = says (Tag 22) >>= code_of;
-  security_type = says (Tag 167);
-  maturity = mature;
-  security_exchange = says (Tag 207);
-  side = unwrap_or (says (Tag 54) >>= code_of) 0;
-  locate = option_map flag_of (says (Tag 114));
-  transact_time = says (Tag 60);
-  order_qty = says (Tag 38) >>= amount_of;
-  ord_type = term.0;
-  price = says (Tag 44) >>= amount_of;
-  stop_px = says (Tag 99) >>= amount_of;
-  currency = says (Tag 15);
-  time_in_force = term.1;
-  effective_time = says (Tag 168);
-  expire_date = says (Tag 432);
-  expire_time = says (Tag 126);
-  capacity = capacity;
-  open_close = says (Tag 77) >>= code_of;
-  text = says (Tag 58);
-}
-
 -- no rule lacks a time
 not_late : (late unlisted : Bool)
     → or_else (lack_if late 59) (or_else (lack_if unlisted 47) None) ≡ None → late ≡ false
@@ -198,18 +152,23 @@ module _ (m : Message) where
   means h kind lack =
       let mature = maturity h in
       let term = terms h (sym (lack_is kind m) ∙ lack) in
-      λ i. request_by kind m.resend (λ place. says place i) (λ count. has_lines_of count i)
-      (says (Tag 21) i >>= code_of) (mature i) (term i) (says (Tag 528) i >>= code_of)
+      λ i. requested_by kind m.resend (λ place. says place i) (λ count. has_lines_of count i)
+      (record {
+        client_id = says (Role 3) i;
+        exec_broker = says (Role 1) i;
+        clearing_firm = says (Role 4) i;
+        hand_inst = says (Tag 21) i >>= code_of;
+        max_floor = says (Tag 1138) i >>= amount_of;
+        maturity = mature i;
+        ord_type = (term i).0;
+        time_in_force = (term i).1;
+        capacity = says (Tag 528) i >>= code_of;
+      })
 
 -- the request of a letter
 by_letter : (f g : RequestKind → Request)
     → ((kind : RequestKind) → lack_of (f kind) ≡ None → g kind ≡ f kind) → (d c r s : Bool)
-    → ((if d then Some (f New) else (if c then Some (f Cancel) else
-    (if r then Some (f Replace) else (if s then Some (f Status) else None)))) >>= lack_of) ≡ None
-    → (if d then Some (g New) else (if c then Some (g Cancel) else
-    (if r then Some (g Replace) else (if s then Some (g Status) else None))))
-    ≡ (if d then Some (f New) else (if c then Some (f Cancel) else
-    (if r then Some (f Replace) else (if s then Some (f Status) else None))))
+    → of_first d c r s f >>= lack_of ≡ None → of_first d c r s g ≡ of_first d c r s f
 by_letter f g same true c r s h = ap (λ (x : Request). Some x) (same New h)
 by_letter f g same false true r s h = ap (λ (x : Request). Some x) (same Cancel h)
 by_letter f g same false false true s h = ap (λ (x : Request). Some x) (same Replace h)

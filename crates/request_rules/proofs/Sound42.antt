@@ -16,6 +16,7 @@ use Rattle.message_tables.specs.Content.{content}
 use Rattle.message_tables.proofs.Clean.{stands, value_at-none}
 use Rattle.row_values.specs.Kinds.{Kind, Value, DayOf, judge, verdict_of, month_at, in_month}
 use Rattle.dict_fix42.specs.Message.{message42}
+use Rattle.dict_fix42.specs.Requests.{asked42}
 use Rattle.first_faults.specs.Faults.{message_by}
 use Rattle.sound_laws.specs.Sound.{IsClear, IsSound}
 use Rattle.sound_laws.proofs.CompletedSound.{kept_test}
@@ -24,9 +25,9 @@ use Rattle.sound_laws.proofs.ContentValues.{is_alone, value_said}
 use Rattle.sound_laws.proofs.PlainRows.{of_message, read_tests, tests_sound, unfixed, value_again}
 use Rattle.sound_laws.proofs.PlainRows.{value_clear}
 use Rattle.sound_laws.proofs.ReadSound.{IsClearField, IsStableRow}
-use Rattle.order_meaning.specs.Request.{RequestKind, New, Cancel, Replace, Status}
-use Rattle.request_rules.specs.Up.{IsRequest42, News, Cancels, Replaces, Statuses}
-use Rattle.request_rules.proofs.ByType.{asked42, by_type}
+use Rattle.order_meaning.specs.Request.{RequestKind, New}
+use Rattle.request_rules.specs.Up.{IsRequest42}
+use Rattle.request_rules.proofs.ByType.{by_type}
 use Rattle.request_rules.proofs.DatesUp.{day_in}
 
 -- ---- the values of FIX 4.2
@@ -159,10 +160,10 @@ module _ (fields : List Field) (clear : AllByRecursion (IsClearField judge) fiel
   each : (x : Message) (kind : RequestKind) → message_by (Some (asked42 kind)) fields None ≡ Ok x
       → IsRequest42 x
   unfolding is_data_tag
-  each x New e = News (table_read (asked42 New) refl refl refl refl refl x e)
-  each x Cancel e = Cancels (table_read (asked42 Cancel) refl refl refl refl refl x e)
-  each x Replace e = Replaces (table_read (asked42 Replace) refl refl refl refl refl x e)
-  each x Status e = Statuses (table_read (asked42 Status) refl refl refl refl refl x e)
+  each x New e =
+      record { kind = New; sound = table_read (asked42 New) refl refl refl refl refl x e }
+  each x kind e =
+      record { kind = kind; sound = table_read (asked42 kind) refl refl refl refl refl x e }
 
   -- WHAT IS READ IS SOUND.
   pub read_is_sound : (msg_type : List ℕ) (x : Message)

@@ -3,9 +3,11 @@ use Rattle.std.specs.Prelude.{◌≡◌, ℕ, List}
 use Rattle.field_groups.specs.Field.{Field}
 use Rattle.message_tables.specs.Tables.{Role, Item, Message, said_at, lines_of}
 use Rattle.message_tables.specs.Content.{content}
+use Rattle.order_meaning.specs.Request.{RequestKind}
+use Rattle.row_values.specs.Asked.{letter_of}
 use Rattle.row_values.specs.Kinds.{Kind, judge}
 use Rattle.rows_fix50.specs.Header.{table}
-use Rattle.dict_fix50.specs.Requests.{new_order, cancel_request, replace_request, status_request}
+use Rattle.dict_fix50.specs.Requests.{asked50, items50}
 use Rattle.sound_laws.specs.Sound.{IsSound}
 use Rattle.sound_laws.specs.Complete.{HasMonthOfDate}
 use Rattle.request_rules.specs.Rules.{party_lines}
@@ -19,11 +21,7 @@ pub record IsCanonical (letter : ℕ) (items : List (Item Kind)) (m : Message) :
       ≡ party_lines (said_at m.cells (Role 3)) (said_at m.cells (Role 1)) (said_at m.cells (Role 4))
 
 -- a canonical request of one of the four types, and its content
-pub data IsRequest (m : Message) (fields : List Field) : Type 0 where
-  News : IsCanonical 68 new_order m → fields ≡ content (table 68 new_order) m → IsRequest m fields
-  Cancels : IsCanonical 70 cancel_request m
-      → fields ≡ content (table 70 cancel_request) m → IsRequest m fields
-  Replaces : IsCanonical 71 replace_request m
-      → fields ≡ content (table 71 replace_request) m → IsRequest m fields
-  Statuses : IsCanonical 72 status_request m
-      → fields ≡ content (table 72 status_request) m → IsRequest m fields
+pub record IsRequest (m : Message) (fields : List Field) : Type 0 where
+  pub kind : RequestKind
+  pub canonical : IsCanonical (letter_of kind) (items50 kind) m
+  pub is : fields ≡ content (asked50 kind) m

@@ -5,10 +5,9 @@ use Rattle.value_kinds.specs.ValueKind.{number_of_two}
 use Rattle.field_groups.specs.Field.{Field, AreFields}
 use Rattle.message_tables.specs.Tables.{Message, ◌>>=◌, code_of}
 use Rattle.row_values.specs.Kinds.{judge}
-use Rattle.rows_fix42.specs.Header.{table as table42}
 use Rattle.dict_fix42.specs.Message.{message42}
 use Rattle.dict_fix42.specs.Sense.{request42, request_of}
-use Rattle.dict_fix42.specs.Requests as requests42
+use Rattle.dict_fix42.specs.Requests.{asked42}
 use Rattle.order_meaning.specs.Request.{RequestKind}
 use Rattle.dict_fix50.specs.Message.{message50}
 use Rattle.dict_fix50.specs.Sense.{request50}
@@ -34,11 +33,9 @@ abbrev pub LacksByRules : Type 0
 LacksByRules = (kind : RequestKind) (m : Message) → lack_of (request_of kind m) ≡ up_lack m
 
 -- a sound request of FIX 4.2
-pub data IsRequest42 (m : Message) : Type 0 where
-  News : IsSound judge (table42 68 requests42.new_order) m → IsRequest42 m
-  Cancels : IsSound judge (table42 70 requests42.cancel_request) m → IsRequest42 m
-  Replaces : IsSound judge (table42 71 requests42.replace_request) m → IsRequest42 m
-  Statuses : IsSound judge (table42 72 requests42.status_request) m → IsRequest42 m
+pub record IsRequest42 (m : Message) : Type 0 where
+  pub kind : RequestKind
+  pub sound : IsSound judge (asked42 kind) m
 
 -- WHAT GOES UP STANDS FOR A MESSAGE: it is a canonical request with the content that the rules
 -- write, it means what the message means, and its content is read again as itself, but for

@@ -5,37 +5,24 @@ use Rattle.std.specs.List.{list_all}
 use Rattle.field_groups.specs.Data.{is_data_tag}
 use Rattle.field_groups.specs.Field.{Field, AreFields, body_of}
 use Rattle.field_groups.specs.Fields.{SplitsInto}
-use Rattle.message_tables.specs.Content.{content}
 use Rattle.message_tables.specs.Tables.{Message}
-use Rattle.order_meaning.specs.Request.{Request, RequestKind, New, Cancel, Replace, Status}
+use Rattle.order_meaning.specs.Request.{Request, RequestKind, New}
+use Rattle.row_values.specs.Asked.{letter_of}
 use Rattle.row_values.specs.Kinds.{judge}
+use Rattle.dict_fix50.specs.Requests.{asked50, items50}
 use Rattle.dict_fix50.specs.Sense.{request50}
-use Rattle.request_rules.specs.Canonical.{IsCanonical}
-use Rattle.request_rules.proofs.ByType.{asked50, items50, letter_of}
 use Rattle.translation.specs.Header.{type_of, with_content}
-use Rattle.request_translate.specs.Translation.{IsRequest, News, Cancels, Replaces, Statuses}
+use Rattle.request_translate.specs.Translation.{IsRequest}
 use Rattle.sound_laws.proofs.PlainFields.{has_good_tags, most_of, times, AreFew, few_of}
 use Rattle.translation.proofs.SplitAgain.{fields_again}
 use Rattle.translation.specs.Going.{IsType}
 
 -- ---- what a request asks for
 
--- a canonical request of what it asks for, and its content
-pub record IsOfKind (r : Message) (written : List Field) (kind : RequestKind) : Type 0 where
-  pub asks : option_map (λ (q : Request). q.kind) (request50 r) ≡ Some kind
-  pub canonical : IsCanonical (letter_of kind) (items50 kind) r
-  pub is : written ≡ content (asked50 kind) r
-
-pub of_kind : (r : Message) (written : List Field) → IsRequest r written
-    → (kind : RequestKind) × IsOfKind r written kind
-of_kind r written (News c w) =
-    (New, record { asks = rw c.sound.letter refl; canonical = c; is = w })
-of_kind r written (Cancels c w) =
-    (Cancel, record { asks = rw c.sound.letter refl; canonical = c; is = w })
-of_kind r written (Replaces c w) =
-    (Replace, record { asks = rw c.sound.letter refl; canonical = c; is = w })
-of_kind r written (Statuses c w) =
-    (Status, record { asks = rw c.sound.letter refl; canonical = c; is = w })
+pub asks : (r : Message) (kind : RequestKind) → r.letter ≡ letter_of kind
+    → option_map (λ (q : Request). q.kind) (request50 r) ≡ Some kind
+asks r New is = rw is refl
+asks r kind is = rw is refl
 
 -- ---- its fields
 
@@ -50,10 +37,9 @@ few_asked New = omega arith
 few_asked kind = omega arith
 
 pub request_few : (m : Message) (written : List Field) → IsRequest m written → AreFew written
-request_few m written request =
-    let own = of_kind m written request in
-    subst (λ (fs : List Field). AreFew fs) (sym own.1.is) (few_of judge (asked50 own.0) m
-    (good_tags own.0) (few_asked own.0) own.1.canonical.sound)
+request_few m written r =
+    subst (λ (fs : List Field). AreFew fs) (sym r.is) (few_of judge (asked50 r.kind) m
+    (good_tags r.kind) (few_asked r.kind) r.canonical.sound)
 
 -- WHAT IS WRITTEN IS SPLIT AGAIN.
 pub split_again : (fields written : List Field) (m : Message)

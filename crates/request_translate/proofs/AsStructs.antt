@@ -13,6 +13,7 @@ use Rattle.message_tables.specs.Tables.{Message, Table}
 use Rattle.order_meaning.specs.declared.fault.Fault.{Fault}
 use Rattle.order_meaning.specs.declared.fault.Lack.{Lack}
 use Rattle.order_meaning.specs.declared.fault.Lack.TheVariants as reasons
+use Rattle.order_meaning.specs.Request.{New, Cancel, Replace, Status}
 use Rattle.row_values.specs.Kinds.{Kind, judge}
 use Rattle.sound_laws.specs.Sound.{IsSound, without_resend}
 use Rattle.sound_laws.proofs.ContentAgain.{content_again, read_again}
@@ -34,7 +35,7 @@ use Rattle.request_rules.specs.Good.{IsRead}
 use Rattle.request_rules.specs.Lack.{lack42}
 use Rattle.request_rules.specs.Put.{IsPut, Lacks}
 use Rattle.request_rules.specs.Rules.{up_content, up_message}
-use Rattle.request_rules.specs.Up.{IsRequest42, News, Cancels, Replaces, Statuses}
+use Rattle.request_rules.specs.Up.{IsRequest42}
 use Rattle.request_rules.proofs.GoUp.{go_up}
 use Rattle.request_translate.specs.Laws.{IsReadAgain42, IsReadAgain50}
 use Rattle.request_translate.specs.Up.{IsSound42}
@@ -70,10 +71,10 @@ again50 (messages50.New m) s =
 again50 m s = content_again (table50 m) (says50 m) refl refl s.sound s.month
 
 asked : (msg : Msg42) → IsSound42 msg → IsRequest42 (says42 msg)
-asked (messages.New m) s = News s
-asked (messages.Cancel m) s = Cancels s
-asked (messages.Replace m) s = Replaces s
-asked (messages.Status m) s = Statuses s
+asked (messages.New m) s = record { kind = New; sound = s }
+asked (messages.Cancel m) s = record { kind = Cancel; sound = s }
+asked (messages.Replace m) s = record { kind = Replace; sound = s }
+asked (messages.Status m) s = record { kind = Status; sound = s }
 
 -- PossResend is no lack
 lack_again : (msg : Msg42) → lack42 (without_resend (says42 msg)) ≡ lack42 (says42 msg)

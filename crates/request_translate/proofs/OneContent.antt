@@ -45,7 +45,7 @@ use Rattle.dict_fix50.specs.Requests.{new_order, cancel_request, replace_request
 use Rattle.dict_fix50.specs.Sense.{request50, request_of}
 use Rattle.request_rules.specs.Canonical.{IsCanonical}
 use Rattle.request_rules.specs.Rules.{at, party_lines}
-use Rattle.request_translate.specs.Laws.{HaveOneContent}
+use Rattle.request_translate.specs.Laws.{HaveOneContent, RequestsHaveOneContent}
 use Rattle.sound_laws.proofs.ContentValues.{is_alone, groups_said, value_said}
 
 -- what the meanings of two give back is the same where they mean the same
@@ -576,31 +576,25 @@ module _ (letter : ℕ) (items : List (Item Kind)) where
       (λ (r : Option Request). unwrap_or r (request_of kind m)) (sym a ∙ e ∙ b)
 
   -- a type of message with one content, by the place of its MaturityDate
-  have_one_content : (kind : RequestKind) (date : ℕ) → slice_get items date ≡ Some date_row
+  of_type : (kind : RequestKind) (date : ℕ) → slice_get items date ≡ Some date_row
       → ((m : Message) → m.letter ≡ letter → request50 m ≡ Some (request_of kind m))
       → ((m n : Message) → IsCanonical letter items m → IsCanonical letter items n
       → request_of kind m ≡ request_of kind n → HaveParts m n → SameMeanings items m n)
       → HaveOneContent letter items
-  have_one_content kind date is asked alike m n c d same =
+  of_type kind date is asked alike m n c d same =
       let e = meant m n kind (asked m c.sound.letter) (asked n d.sound.letter) same in
       one_content m n c d kind e (alike m n c d e (parts m n c d kind e date is))
 
 -- ---- the four types
 
-pub news : HaveOneContent 68 new_order
-news = have_one_content 68 new_order New 21 refl (λ m letter. rw letter refl)
+pub have_one_content : RequestsHaveOneContent
+have_one_content New = of_type 68 new_order New 21 refl (λ m letter. rw letter refl)
     (λ m n c d e parts. new_means m n New e parts
     (terms 68 new_order m n c d New e 27 31 6 14 refl refl refl refl refl))
-
-pub cancels : HaveOneContent 70 cancel_request
-cancels = have_one_content 70 cancel_request Cancel 13 refl (λ m letter. rw letter refl)
+have_one_content Cancel = of_type 70 cancel_request Cancel 13 refl (λ m letter. rw letter refl)
     (λ m n c d e parts. cancel_means m n Cancel e parts)
-
-pub replaces : HaveOneContent 71 replace_request
-replaces = have_one_content 71 replace_request Replace 23 refl (λ m letter. rw letter refl)
+have_one_content Replace = of_type 71 replace_request Replace 23 refl (λ m letter. rw letter refl)
     (λ m n c d e parts. replace_means m n Replace e parts
     (terms 71 replace_request m n c d Replace e 29 33 8 16 refl refl refl refl refl))
-
-pub statuses : HaveOneContent 72 status_request
-statuses = have_one_content 72 status_request Status 12 refl (λ m letter. rw letter refl)
+have_one_content Status = of_type 72 status_request Status 12 refl (λ m letter. rw letter refl)
     (λ m n c d e parts. status_means m n Status e parts)

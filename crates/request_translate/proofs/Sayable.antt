@@ -18,10 +18,11 @@ use Rattle.dict_fix42.specs.Sense.{request42}
 use Rattle.dict_fix50.specs.Message.{message50, message50_by}
 use Rattle.rows_fix50.specs.Header.{completed, completed_by}
 use Rattle.first_faults.specs.Faults.{told}
+use Rattle.dict_fix50.specs.Requests.{asked50}
 use Rattle.dict_fix50.specs.Sense.{sense50, request50, request_of}
 use Rattle.rows_fix50.specs.Meaning.{terms_of}
 use Rattle.request_rules.specs.Put.{Lacks}
-use Rattle.request_rules.proofs.ByType.{asked50, by_type}
+use Rattle.request_rules.proofs.ByType.{by_type}
 use Rattle.request_rules.proofs.LacksUp.{plain}
 use Rattle.request_translate.specs.Lack.{lacks_time, lacks_capacity, lack_of, IsLackOf}
 use Rattle.request_translate.specs.Laws.{LacksNothing}

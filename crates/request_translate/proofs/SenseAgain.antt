@@ -5,7 +5,7 @@ use Rattle.std.specs.Prelude.{unwrap_or}
 use Rattle.std.specs.Option.{option_map}
 use Rattle.std.specs.Result.{result_ok}
 use Rattle.std.specs.List.{AllByRecursion}
-use Rattle.request_rules.proofs.ByType.{asked42, asked50, by_type, items42, items50, letter_of}
+use Rattle.request_rules.proofs.ByType.{by_type}
 use Rattle.field_groups.specs.Field.{Field}
 use Rattle.message_tables.specs.Tables.{Item, Table, Message, Said, ◌>>=◌, flag_of, value_at}
 use Rattle.message_tables.specs.FirstFault.{first_fault, message_in, message_of}
@@ -14,10 +14,13 @@ use Rattle.order_meaning.specs.Request.{Request, RequestKind, New}
 use Rattle.order_meaning.specs.declared.fault.Fault.{Fault}
 use Rattle.rows_fix42.specs.Header as header42
 use Rattle.dict_fix42.specs.Message as read42
+use Rattle.dict_fix42.specs.Requests.{asked42, items42}
 use Rattle.dict_fix42.specs.Sense.{sense42, request42}
+use Rattle.row_values.specs.Asked.{letter_of}
 use Rattle.row_values.specs.Kinds.{Kind, judge}
 use Rattle.first_faults.specs.Faults as row_faults
 use Rattle.dict_fix50.specs.Message as read50
+use Rattle.dict_fix50.specs.Requests.{asked50, items50}
 use Rattle.rows_fix50.specs.Header.{table, completed_by}
 use Rattle.dict_fix50.specs.Sense.{sense50, request50}
 use Rattle.sound_laws.proofs.Completed.{completed_again}
@@ -34,7 +37,7 @@ use Rattle.translation.proofs.CarriedHeader.{own_said}
 use Rattle.translation.specs.Going.{IsType}
 use Rattle.request_rules.specs.Canonical.{IsCanonical}
 use Rattle.request_translate.specs.Translation.{IsRequest}
-use Rattle.request_translate.proofs.AgainFields.{IsOfKind, of_kind}
+use Rattle.request_translate.proofs.AgainFields.{asks}
 use Rattle.request_translate.proofs.Sayable.{told50}
 
 abbrev up_fields_of : List ℕ → List Field → List Field → List Field
@@ -105,12 +108,14 @@ module _ (msg_type : List ℕ) (fields : List Field) (x r : Message) (is_type : 
   one_kind kind behind fit asked e written request =
       let read = read_of (asked42 kind) fields x e in
       let theirs = asked x (ap (λ (y : Message). y.letter) (sym read.is)) in
-      let own = of_kind r written request in
-      let kinds_are : Some own.0 ≡ Some kind = sym own.1.asks
+      let kinds_are : Some request.kind ≡ Some kind =
+      sym (asks r request.kind request.canonical.sound.letter)
       ∙ ap (option_map (λ (q : Request). q.kind)) means ∙ theirs in
-      let same : own.0 ≡ kind = cc in
-      let Q : RequestKind → Type 0 = λ k. IsOfKind r written k in
-      let of : IsOfKind r written kind = subst Q same own.1 in
+      let same : request.kind ≡ kind = cc in
+      let Q : RequestKind → Type 0 = λ k. IsCanonical (letter_of k) (items50 k) r in
+      let canonical : IsCanonical (letter_of kind) (items50 kind) r =
+      subst Q same request.canonical in
+      let is = request.is ∙ ap (λ (k : RequestKind). content (asked50 k) r) same in
       let flag : x.resend ≡ unwrap_or (option_map flag_of (value_at 97 fields)) false =
       ap (λ (y : Message). y.resend) (sym read.is) in
       let head = head_is_own (asked42 kind) fields read.good clear msg_type is_type
@@ -118,8 +123,8 @@ module _ (msg_type : List ℕ) (fields : List Field) (x r : Message) (is_type : 
       let P : List Field → Type 0 = λ fs. result_ok (told50
       (message_of judge (asked50 kind) (up_fields_of msg_type fields fs)))
       >>= request50 ≡ request42 x in
-      subst P (sym of.is) (ap (λ (y : Result Message Fault). result_ok y >>= request50)
-      (read_by msg_type fields r head (letter_of kind) (items50 kind) behind fit of.canonical
+      subst P (sym is) (ap (λ (y : Result Message Fault). result_ok y >>= request50)
+      (read_by msg_type fields r head (letter_of kind) (items50 kind) behind fit canonical
       (resend ∙ flag)) ∙ means)
 
   -- A REQUEST IS READ AGAIN with the sense that it had.

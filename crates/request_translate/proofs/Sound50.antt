@@ -10,8 +10,9 @@ use Rattle.row_values.specs.Kinds.{judge}
 use Rattle.dict_fix50.specs.Message.{message50, message50_by}
 use Rattle.sound_laws.specs.Complete.{IsComplete}
 use Rattle.order_meaning.specs.Request.{RequestKind, New, Cancel, Replace, Status}
-use Rattle.request_rules.proofs.ByType.{asked50, by_type}
-use Rattle.request_translate.specs.Up.{IsRequest50, News, Cancels, Replaces, Statuses}
+use Rattle.dict_fix50.specs.Requests.{asked50}
+use Rattle.request_rules.proofs.ByType.{by_type}
+use Rattle.request_translate.specs.Up.{IsRequest50}
 use Rattle.sound_laws.proofs.ReadSound.{IsClearField}
 use Rattle.sound_laws.proofs.ReadComplete.{IsDated, dated_complete, untyped}
 
@@ -38,17 +39,11 @@ module _ (fields : List Field) (clear : AllByRecursion (IsClearField judge) fiel
       → message50_by (Some (asked50 kind)) fields None ≡ Ok x → IsComplete (asked50 kind) x
   complete kind = dated_complete fields (asked50 kind) clear (has_type kind) (dated kind)
 
-  each : (x : Message) (kind : RequestKind)
-      → message50_by (Some (asked50 kind)) fields None ≡ Ok x → IsRequest50 x
-  each x New e = News (complete New x e)
-  each x Cancel e = Cancels (complete Cancel x e)
-  each x Replace e = Replaces (complete Replace x e)
-  each x Status e = Statuses (complete Status x e)
-
   -- WHAT IS READ IS SOUND, AND COMPLETE.
   pub read_is_complete : (msg_type : List ℕ) (x : Message) → message50 msg_type fields None ≡ Ok x
       → IsRequest50 x
   unfolding message50
   read_is_complete msg_type x e =
       by_type (λ t of42 of50. message50_by of50 fields None ≡ Ok x → IsRequest50 x)
-      (λ t no. absurd cc) (each x) msg_type e
+      (λ t no. absurd cc)
+      (λ kind e. record { kind = kind; complete = complete kind x e }) msg_type e

@@ -13,7 +13,7 @@ use Rattle.request_rules.specs.Lack.{lack42}
 use Rattle.request_rules.specs.Rules.{up_content, up_message}
 use Rattle.request_rules.proofs.GoUp.{read_go_up}
 use Rattle.request_translate.specs.Translation.{up}
-use Rattle.request_translate.proofs.AgainFields.{split_again, of_kind}
+use Rattle.request_translate.proofs.AgainFields.{asks, split_again}
 use Rattle.request_translate.proofs.SenseAgain.{same_sense}
 use Rattle.request_translate.proofs.Writable.{type_is}
 use Rattle.std.specs.Option.{option_map}
@@ -61,7 +61,7 @@ means_some : (body : List ℕ) (fields : List Field) → Goes up body fields
 unfolding sense42
 means_some body fields g =
     ap (λ (r : _). is_some (result_ok r >>= request42)) g.read.read ∙ ap is_some (sym g.kept.means)
-    ∙ some_of _ _ (of_kind g.other (up_content g.read.message) g.kept.canonical).1.asks
+    ∙ some_of _ _ (asks g.other g.kept.canonical.kind g.kept.canonical.canonical.sound.letter)
 
 pub frames_keep : FramesKeepSense
 frames_keep = frames.frames_keep up Fix42

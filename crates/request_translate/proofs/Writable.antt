@@ -6,7 +6,8 @@ use Rattle.order_meaning.specs.Request.{RequestKind, New, Cancel, Replace, Statu
 use Rattle.dict_fix42.specs.Message.{message42}
 use Rattle.first_faults.specs.Faults.{message_by}
 use Rattle.translation.specs.Going.{IsType, One}
-use Rattle.request_rules.proofs.ByType.{by_type, letter_of}
+use Rattle.row_values.specs.Asked.{letter_of}
+use Rattle.request_rules.proofs.ByType.{by_type}
 
 pub is_type : (kind : RequestKind) → IsType (letter_of kind ∷ [])
 is_type New = One 68 (λ no. absurd (omega (arith, no))) refl

@@ -11,10 +11,12 @@ use Rattle.dict_fix50.specs.Content.{content50}
 use Rattle.dict_fix50.specs.Message.{message50}
 use Rattle.dict_fix50.specs.Said.{says as says50}
 use Rattle.dict_fix50.specs.declared.requests.Msg50.{Msg50}
-use Rattle.dict_fix50.specs.Requests.{new_order, cancel_request, replace_request, status_request}
+use Rattle.dict_fix50.specs.Requests.{items50}
 use Rattle.dict_fix50.specs.Sense.{request50, sense50}
 use Rattle.message_tables.specs.Content.{content}
 use Rattle.message_tables.specs.Tables.{Item, Message}
+use Rattle.order_meaning.specs.Request.{RequestKind}
+use Rattle.row_values.specs.Asked.{letter_of}
 use Rattle.row_values.specs.Kinds.{Kind}
 use Rattle.rows_fix50.specs.Header.{table}
 use Rattle.sound_laws.specs.Sound.{without_resend}
@@ -36,11 +38,8 @@ HaveOneContent letter items =
     (m n : Message) → IsCanonical letter items m → IsCanonical letter items n →
     request50 m ≡ request50 n → content (table letter items) m ≡ content (table letter items) n
 
-pub record RequestsHaveOneContent : Type 0 where
-  pub news : HaveOneContent 68 new_order
-  pub cancels : HaveOneContent 70 cancel_request
-  pub replaces : HaveOneContent 71 replace_request
-  pub statuses : HaveOneContent 72 status_request
+abbrev pub RequestsHaveOneContent : Type 0
+RequestsHaveOneContent = (kind : RequestKind) → HaveOneContent (letter_of kind) (items50 kind)
 
 -- a body has one outcome
 abbrev pub OneOutcome : Type 0

@@ -12,7 +12,7 @@ use Rattle.translation.specs.Bodies as bodies
 use Rattle.translation.specs.Bodies.{Direction}
 use Rattle.translation.specs.declared.error.TranslateError.{TranslateError}
 use Rattle.translation.specs.Header.{type_of, with_content}
-pub use Rattle.request_rules.specs.Canonical.{IsRequest, News, Cancels, Replaces, Statuses}
+pub use Rattle.request_rules.specs.Canonical.{IsRequest}
 use Rattle.request_rules.specs.Lack.{lack42}
 use Rattle.request_rules.specs.Rules.{up_content, up_message}
 

@@ -1,12 +1,12 @@
 -- Own: a sound request of each version, one whose content says the same when it is read again.
 use Rattle.message_tables.specs.Tables.{Message}
+use Rattle.order_meaning.specs.Request.{RequestKind}
 use Rattle.row_values.specs.Kinds.{judge}
-use Rattle.rows_fix50.specs.Header.{table}
 use Rattle.dict_fix42.specs.Content.{table42}
 use Rattle.dict_fix42.specs.Said.{says as says42}
 use Rattle.dict_fix42.specs.declared.requests.Msg42.{Msg42}
 use Rattle.dict_fix50.specs.Content.{table50}
-use Rattle.dict_fix50.specs.Requests.{new_order, cancel_request, replace_request, status_request}
+use Rattle.dict_fix50.specs.Requests.{asked50}
 use Rattle.dict_fix50.specs.Said.{says as says50}
 use Rattle.dict_fix50.specs.declared.requests.Msg50.{Msg50}
 use Rattle.sound_laws.specs.Sound.{IsSound}
@@ -19,8 +19,6 @@ abbrev pub IsSound50 : Msg50 → Type 0
 IsSound50 m = IsComplete (table50 m) (says50 m)
 
 -- a sound request of FIX 5.0 SP2
-pub data IsRequest50 (m : Message) : Type 0 where
-  News : IsComplete (table 68 new_order) m → IsRequest50 m
-  Cancels : IsComplete (table 70 cancel_request) m → IsRequest50 m
-  Replaces : IsComplete (table 71 replace_request) m → IsRequest50 m
-  Statuses : IsComplete (table 72 status_request) m → IsRequest50 m
+pub record IsRequest50 (m : Message) : Type 0 where
+  pub kind : RequestKind
+  pub complete : IsComplete (asked50 kind) m

@@ -8,5 +8,6 @@ pub mod Maturity
 pub mod ReadRows
 pub mod Contras
 pub mod Amounts
+pub mod Asked
 pub mod Executions
 pub mod Phases

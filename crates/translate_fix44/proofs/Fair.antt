@@ -22,7 +22,8 @@ use Rattle.sound_laws.proofs.Completed.{completed_again}
 use Rattle.sound_laws.proofs.Lookups.{places_apart}
 use Rattle.sound_laws.proofs.TableFits as fits
 use Rattle.rule_rows.specs.ByRules.{by_rules, lack_by}
-use Rattle.request_rules.proofs.ByType.{asked50, items50, letter_of}
+use Rattle.row_values.specs.Asked.{letter_of}
+use Rattle.dict_fix50.specs.Requests.{asked50, items50}
 use Rattle.report_rules.proofs.SenseDown.{not_lacking}
 use Rattle.translation.specs.Header.{type_of, with_content, carried, head_down}
 use Rattle.translation.specs.Going.{IsFair, IsType, Keeps}
@@ -30,7 +31,7 @@ use Rattle.translation.proofs.BehindHeader.{front, items_behind, whole}
 use Rattle.translation.proofs.CarriedHeader.{head_is_own, head_value, HasHeader}
 use Rattle.translation.proofs.CarriedDown.{head_clear, type_down}
 use Rattle.translation.proofs.SplitAgain.{clear_again}
-use Rattle.request_translate.proofs.AgainFields.{of_kind, split_again}
+use Rattle.request_translate.proofs.AgainFields.{split_again}
 use Rattle.request_translate.proofs.SenseAgain.{has_header, read_by}
 use Rattle.request_translate.proofs.Writable.{is_type}
 use Rattle.report_translate.specs.Reading.{report_message}
@@ -69,21 +70,21 @@ up_fair fields are m w read goes =
     let type = subst (λ (t : List ℕ). IsType t) (sym a.type) (is_type a.kind) in
     let made = (not_lacking (up_lack m) (by_rules kinds up_rules m) w goes).1 in
     let same = ap (by_rules kinds up_rules) r.1 ∙ made in
-    let own = of_kind w (up_content m) stands.request in
-    let letter = ap (λ (x : Message). x.letter) same ∙ own.1.canonical.sound.letter in
+    let own = stands.request in
+    let letter = ap (λ (x : Message). x.letter) same ∙ own.canonical.sound.letter in
     let head = head_is_own (asked44 a.kind) fields r.0 (clear_fields judge None fields are)
     (type_of fields) type (has_header (letter_of a.kind) (items_of a.kind)) in
-    let test = tests (head_value (type_of fields) fields) w own.0 in
+    let test = tests (head_value (type_of fields) fields) w own.kind in
     record {
       kept = record {
         means = stands.means;
         read = ap (λ (t : List ℕ). message50 t (with_content fields (up_content m)) None)
             (a.type ∙ ap (λ (n : ℕ). n ∷ []) letter)
-            ∙ reads own.0 (with_content fields (up_content m))
-            ∙ ap (λ (fs : List Field). completed_by (told (message_of judge (asked50 own.0)
-            (with_content fields fs)))) own.1.is
-            ∙ read_by (type_of fields) fields w head (letter_of own.0) (items50 own.0) test.0 test.1
-            own.1.canonical (sym (ap (λ (x : Message). x.resend) same));
+            ∙ reads own.kind (with_content fields (up_content m))
+            ∙ ap (λ (fs : List Field). completed_by (told (message_of judge (asked50 own.kind)
+            (with_content fields fs)))) own.is
+            ∙ read_by (type_of fields) fields w head (letter_of own.kind) (items50 own.kind)
+            test.0 test.1 own.canonical (sym (ap (λ (x : Message). x.resend) same));
       };
       again = split_again fields (up_content m) w are type stands.request;
       typed = type;

@@ -47,8 +47,8 @@ use Rattle.rule_rows.proofs.Said as source
 use Rattle.rule_rows.proofs.Sound.{gone}
 use Rattle.request_rules.specs.Rules.{party_lines}
 use Rattle.request_rules.specs.Canonical.{IsCanonical, IsRequest}
-use Rattle.request_rules.specs.Canonical as canonical
-use Rattle.request_rules.proofs.ByType.{by_tables, letter_of, asked}
+use Rattle.row_values.specs.Asked.{letter_of, of_letter}
+use Rattle.request_rules.proofs.ByType.{by_tables}
 use Rattle.request_rules.proofs.PartiesUp.{three_parties}
 use Rattle.report_rules.specs.Down.{IsId, Rejects50, Reports50}
 use Rattle.report_rules.specs.Rules.{at}
@@ -191,7 +191,7 @@ coded fields None h = tt
 coded fields (Some text) h = rw (is_code_of fields (codes "123") text h).is refl
 
 module _ (kind : RequestKind)
-    (is : (f : RequestKind → Request) → asked (letter_of kind) f ≡ Some (f kind))
+    (is : (f : RequestKind → Request) → of_letter (letter_of kind) f ≡ Some (f kind))
     (inst : has_place (outline_of (items_of kind)) (Tag 21) ≡ has_inst kind)
     (inst_row : IsRow (items_of kind) (row Optional 21 (Code (codes "123"))))
     (m : Message) (c : IsComplete (asked44 kind) m) (lack : up_lack m ≡ None) where
@@ -205,8 +205,8 @@ module _ (kind : RequestKind)
   gone_up = way_gone true up_rules up_way (letter_of kind) (items_of kind) (up_goes kind) m c
       (or_none _ _ lack)
 
-  by_letter : (f : RequestKind → Request) → asked m.letter f ≡ Some (f kind)
-  by_letter f = ap (λ (n : ℕ). asked n f) c.sound.letter ∙ is f
+  by_letter : (f : RequestKind → Request) → of_letter m.letter f ≡ Some (f kind)
+  by_letter f = ap (λ (n : ℕ). of_letter n f) c.sound.letter ∙ is f
 
   means : sense50.request50 w ≡ sense44.request44 m
   means =
@@ -238,11 +238,14 @@ module _ (kind : RequestKind)
 -- WHAT GOES UP STANDS FOR A MESSAGE.
 stands : (m : Message) → IsRequest44 m → up_lack m ≡ None → StandsUp m (by_rules kinds up_rules m)
 unfolding message50
-stands m (News c) lack = stands_up New (λ f. refl) refl refl m c lack canonical.News refl
-stands m (Cancels c) lack = stands_up Cancel (λ f. refl) refl tt m c lack canonical.Cancels refl
-stands m (Replaces c) lack =
-    stands_up Replace (λ f. refl) refl refl m c lack canonical.Replaces refl
-stands m (Statuses c) lack = stands_up Status (λ f. refl) refl tt m c lack canonical.Statuses refl
+stands m (News c) lack = stands_up New (λ f. refl) refl refl m c lack
+    (λ x is. record { kind = New; canonical = x; is = is }) refl
+stands m (Cancels c) lack = stands_up Cancel (λ f. refl) refl tt m c lack
+    (λ x is. record { kind = Cancel; canonical = x; is = is }) refl
+stands m (Replaces c) lack = stands_up Replace (λ f. refl) refl refl m c lack
+    (λ x is. record { kind = Replace; canonical = x; is = is }) refl
+stands m (Statuses c) lack = stands_up Status (λ f. refl) refl tt m c lack
+    (λ x is. record { kind = Status; canonical = x; is = is }) refl
 
 pub go_up : GoUp
 go_up m w request up =

@@ -37,7 +37,7 @@ use Rattle.rule_rows.proofs.FieldsSaid.{IsRead, row_says}
 use Rattle.rule_rows.proofs.Items.{row_there}
 use Rattle.rule_rows.proofs.Written.{AreSaid, Goes, moved, text}
 use Rattle.request_rules.specs.Rules.{is_unlisted, party_lines}
-use Rattle.request_rules.proofs.ByType.{letter_of}
+use Rattle.row_values.specs.Asked.{letter_of}
 use Rattle.report_rules.specs.CodeRules.{has_row, is_month, month}
 use Rattle.report_rules.specs.Rules.{at}
 use Rattle.report_rules.proofs.CodeDown.{told_said, within_said}

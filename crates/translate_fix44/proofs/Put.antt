@@ -31,7 +31,8 @@ use Rattle.rule_rows.specs.ByRules.{by_rules, content_by, lack_by, lack_if, or_l
 use Rattle.rule_rows.specs.declared.rules.Rule.{Rule as CodeRule}
 use Rattle.rule_rows.specs.CodeRules.{AreFor, IsLackOf, lacked, table_of, writes as all_write}
 use Rattle.rule_rows.proofs.Written.{all_lacked, all_written}
-use Rattle.request_rules.proofs.ByType.{letter_of, by_tables}
+use Rattle.row_values.specs.Asked.{letter_of}
+use Rattle.request_rules.proofs.ByType.{by_tables}
 use Rattle.report_rules.specs.Judged.{AreGood}
 use Rattle.report_rules.proofs.Judged.{clean_is, fault_by}
 use Rattle.report_rules.proofs.PutDown.{good_eight, nine as is_nine}

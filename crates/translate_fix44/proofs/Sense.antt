@@ -11,6 +11,7 @@ use Rattle.value_kinds.specs.ValueKind.{code_text}
 use Rattle.order_meaning.specs.Report.{ExecutionReport, Executed, NotCanceled, filled, or_known}
 use Rattle.order_meaning.specs.Request.{RequestKind, New, Cancel, Replace, Status}
 use Rattle.row_values.specs.Amounts.{amount_of}
+use Rattle.row_values.specs.Asked.{requested_by}
 use Rattle.row_values.specs.Executions.{executed_by}
 use Rattle.row_values.specs.Phases.{phase_of}
 use Rattle.rows_fix50.specs.Meaning.{maturity_of, terms_of}
@@ -25,7 +26,6 @@ use Rattle.rule_rows.specs.Rules.{By}
 use Rattle.rule_rows.proofs.Looked as looked
 use Rattle.rule_rows.proofs.Looked.{rule_at, said_by}
 use Rattle.request_rules.specs.Rules.{is_unlisted}
-use Rattle.request_rules.proofs.SenseUp.{request_by}
 use Rattle.request_rules.proofs.TermsUp.{listed_is}
 use Rattle.report_rules.specs.Rules.{at}
 use Rattle.report_rules.proofs.ValuesDown.{other_0, other_2, other_4, reason_kept, report_told}
@@ -142,9 +142,17 @@ request_means m kind there coded =
     ∙ inst_kept kind (has_place (outline m) (Tag 21)) (at m 21) there coded in
     let type = (λ i. says (Tag 40) i >>= code_of) ∙ same_code (at m 40 >>= code_of) in
     let capacity = (λ i. says (Tag 528) i >>= code_of) ∙ same_code (at m 528 >>= code_of) in
-    λ i. request_by kind m.resend (λ place. says place i) (λ count. lines count i) (inst i)
-    (maturity_of (says (Tag 200) i) (says (Tag 541) i))
-    (terms_of (type i) (says (Tag 59) i >>= code_of)) (capacity i)
+    λ i. requested_by kind m.resend (λ place. says place i) (λ count. lines count i) (record {
+      client_id = says (Role 3) i;
+      exec_broker = says (Role 1) i;
+      clearing_firm = says (Role 4) i;
+      hand_inst = inst i;
+      max_floor = says (Tag 1138) i >>= amount_of;
+      maturity = maturity_of (says (Tag 200) i) (says (Tag 541) i);
+      ord_type = (terms_of (type i) (says (Tag 59) i >>= code_of)).0;
+      time_in_force = (terms_of (type i) (says (Tag 59) i >>= code_of)).1;
+      capacity = capacity i;
+    })
 
 -- ---- an execution report
 

@@ -12,7 +12,7 @@ use Rattle.rows_fix50.specs.Header.{completed}
 use Rattle.dict_fix44.specs.Requests.{cancel_request, new_order, replace_request, status_request}
 use Rattle.reports_fix50.specs.Message.{report_table_of}
 pub use Rattle.report_rules.specs.Down.{IsGoodBy}
-use Rattle.request_rules.proofs.ByType.{letter_of}
+use Rattle.row_values.specs.Asked.{letter_of}
 use Rattle.translation.specs.Bodies.{Direction}
 use Rattle.translation.specs.Errors.{error_of_lack}
 use Rattle.translation.specs.Going.{StayBack}
