@@ -2,16 +2,15 @@
 use Rattle.std.proofs.Common.{◌≡◌, ℕ, zero, suc, ◌+◌, ◌<◌, ◌≤◌, Bool, true, false, cond, eqb}
 use Rattle.std.proofs.Common.{List, [], ◌∷◌, ◌++◌, length, get_or, take, map, replicate, Some, None}
 use Rattle.std.proofs.Common.{Option, refl, sym, subst, ap, ◌∙◌, arith}
-use Rattle.std.specs.Prelude.{◌&&◌, ◌||◌, ◌==◌, ◌%◌, not, position}
+use Rattle.std.specs.Prelude.{◌&&◌, ◌||◌, ◌==◌, not, position}
 use Rattle.std.specs.Borrow.{Bor}
 use Rattle.std.specs.List.{AllByRecursion, flat_map, list_all, list_any, slice_get}
 use Rattle.std.proofs.Math.ListN.{set}
 use Rattle.std.proofs.lemmas.Bool.Decides.{nat_tests}
 use Rattle.std.proofs.lemmas.Option.{get_or_from_slice_get}
 use Rattle.std.proofs.lemmas.Grind.{flat_map-append}
-use Rattle.std.proofs.lemmas.List.{append-nil, get_or-set_same, map-append, take_more}
-use Rattle.std.proofs.lemmas.List.Folds.{list_all-append, list_any-append}
-use Rattle.std.proofs.lemmas.Nat.{mod_below}
+use Rattle.std.proofs.lemmas.List.{append-nil, map-append, take_more}
+use Rattle.std.proofs.lemmas.List.Folds.{list_all-append}
 use Rattle.field_groups.specs.Field.{Field}
 use Rattle.message_tables.specs.declared.table.Row.{Row as CodeRow}
 use Rattle.message_tables.specs.declared.table.Item.{Item as CodeItem}
@@ -37,7 +36,7 @@ use Rattle.row_values.specs.Kinds.{Kind, judge}
 use Rattle.first_faults.specs.declared.indexed.TagRow.{TagRow}
 use Rattle.first_faults.specs.declared.indexed.TagRow.TheVariants.{Absent, Own, Member, Passed}
 use Rattle.first_faults.specs.declared.indexed.Span.{Span}
-use Rattle.first_faults.specs.Indexed.{AreGoodFields, AreNeeded, AreSaid, AreTagRows, HaveCome}
+use Rattle.first_faults.specs.Indexed.{AreGoodFields, AreSaid, AreTagRows}
 use Rattle.first_faults.specs.Indexed.{IsAlone}
 use Rattle.first_faults.specs.Indexed.{IsApartItem, IsFirstRow, IsGoodField, IsRowOf, IsTagRow}
 use Rattle.first_faults.specs.Indexed.{IsWholeItem, is_said, may_be_needed, needed_of, of_tag}
@@ -120,37 +119,6 @@ is_passed_in false groups h = refl
 
 -- ---- rows that a message may have to say
 
-pub no_needed : AreNeeded [] []
-no_needed = refl
-
--- one more item
-pub more_needed : (items : List (CodeItem CodeKind)) (i : ℕ) (item : CodeItem CodeKind)
-    → (old new : List (Option (Bor (CodeRow CodeKind)))) (row : Option (Bor (CodeRow CodeKind)))
-    → item ≡ get_or items i item → i < length items → AreNeeded (take i items) old
-    → row_in row ≡ needed_of (item_of kind_of item)
-    → flat_map row_in new ≡ flat_map row_in old ++ row_in row
-    → AreNeeded (take (i + 1) items) new
-more_needed items i item old new row at lt so_far is e =
-    let more : map (item_of kind_of) (take (i + 1) items)
-    ≡ map (item_of kind_of) (take i items) ++ item_of kind_of item ∷ [] =
-    ap (map (item_of kind_of)) (take_more items i item lt
-    ∙ ap (λ (x : CodeItem CodeKind). take i items ++ x ∷ []) (sym at))
-    ∙ map-append (item_of kind_of) (take i items) (item ∷ []) in
-    e ∙ ap (λ (rows : List (Row Kind)). rows ++ row_in row) so_far
-    ∙ ap (λ (rows : List (Row Kind)).
-    flat_map needed_of (map (item_of kind_of) (take i items)) ++ rows)
-    (is ∙ sym (append-nil (needed_of (item_of kind_of item))))
-    ∙ sym (flat_map-append
-    needed_of (map (item_of kind_of) (take i items)) (item_of kind_of item ∷ []))
-    ∙ ap (flat_map needed_of) (sym more)
-
-pub pushed : (old : List (Option (Bor (CodeRow CodeKind)))) (row : Bor (CodeRow CodeKind))
-    → flat_map row_in (old ++ Some row ∷ []) ≡ flat_map row_in old ++ row_in (Some row)
-pushed old row = flat_map-append row_in old (Some row ∷ [])
-
-pub unneeded : (rows : List (Row Kind)) → rows ≡ rows ++ []
-unneeded rows = sym (append-nil rows)
-
 -- a row whose field is found, and one that has none
 pub said_found : (fields : List Field) (row : Row Kind) (place : ℕ)
     → Some place ≡ position (λ (f : Field). f.0 == row.tag) fields → true ≡ is_said fields row
@@ -184,11 +152,11 @@ more_said fields rows i row at lt so_far said =
     ∙ list_all-append (is_said fields) (flat_map row_in (take i rows)) (row_in row)
     ∙ rw (so_far, said) refl
 
-and_left : (a b : Bool) → (a && b) ≡ true → a ≡ true
+pub and_left : (a b : Bool) → (a && b) ≡ true → a ≡ true
 and_left true b h = refl
 and_left false b h = h
 
-and_right : (a b : Bool) → (a && b) ≡ true → b ≡ true
+pub and_right : (a b : Bool) → (a && b) ≡ true → b ≡ true
 and_right true b h = h
 and_right false b h = absurd cc
 
@@ -341,49 +309,6 @@ new_good table fields place tag value row at is alone new good =
     own_good table fields place tag value row at is alone (rw new (and_false _))
     (ap (λ (m : Mark). is_good (allowed (need_of row.need) m)) (good_mark _ good)
     ∙ good_is_allowed (need_of row.need))
-
--- ---- the tags that came
-
-pub none_came : (come : List Bool) → HaveCome [] come
-none_came come tag there = absurd cc
-
-pub not_come : (fields : List Field) (come : List Bool) (tag : ℕ) (came : Bool)
-    → came ≡ get_or come (tag % 256) false → not came ≡ true → HaveCome fields come
-    → has_tag tag fields ≡ false
-not_come fields come tag came is new so_far = by (has_tag tag fields) refl
-  where
-    by : (b : Bool) → has_tag tag fields ≡ b → b ≡ false
-    by false e = refl
-    by true e = absurd (cc (so_far tag e, is, is_off came new))
-
--- what is marked stays marked
-set_keeps : (marks : List Bool) (i j : ℕ) → get_or marks j false ≡ true
-    → get_or (set marks i true) j false ≡ true
-set_keeps [] i j h = h
-set_keeps (one ∷ marks) zero zero h = refl
-set_keeps (one ∷ marks) zero (suc j) h = h
-set_keeps (one ∷ marks) (suc i) zero h = h
-set_keeps (one ∷ marks) (suc i) (suc j) h = set_keeps marks i j h
-
-pub one_came : (fields : List Field) (come : List Bool) (tag : ℕ) (value : List ℕ)
-    → length come ≡ 256 → HaveCome fields come
-    → HaveCome (fields ++ (tag, value) ∷ []) (set come (tag % 256) true)
-one_came fields come tag value whole so_far other there =
-    by (has_tag other fields) refl (tag == other) refl
-    (sym (list_any-append (λ (f : Field). f.0 == other) fields ((tag, value) ∷ [])) ∙ there)
-  where
-    Marked : Type 0
-    Marked = get_or (set come (tag % 256) true) (other % 256) false ≡ true
-
-    by : (before : Bool) → has_tag other fields ≡ before → (here : Bool) → eqb tag other ≡ here
-        → (before || (here || false)) ≡ true → Marked
-    by true e here h there = set_keeps come (tag % 256) (other % 256) (so_far other e)
-    by false e true h there =
-        let same : tag ≡ other = grind (arith, nat_tests, h) in
-        let within : tag % 256 < length come = rw whole (mod_below tag 256 (omega arith)) in
-        ap (λ (n : ℕ). get_or (set come (tag % 256) true) (n % 256) false) (sym same)
-        ∙ get_or-set_same come (tag % 256) true false within
-    by false e false h there = absurd cc
 
 -- a good field of which nothing more is known
 pub other_good : (table : Table Kind) (fields : List Field) (place : ℕ)

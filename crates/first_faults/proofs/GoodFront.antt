@@ -1,6 +1,6 @@
 -- Fields at the front that are good: the fields one by one, and what is found of them.
 use Rattle.std.proofs.Common.{◌≡◌, ℕ, zero, suc, ◌+◌, ◌<◌, ◌≤◌, List, [], ◌∷◌, ◌++◌, length, get_or}
-use Rattle.std.proofs.Common.{take, map, Bool, Some, None, Option, refl, sym, subst, ap, ◌∙◌, arith}
+use Rattle.std.proofs.Common.{take, map, Some, None, Option, refl, sym, subst, ap, ◌∙◌, arith}
 use Rattle.std.specs.Borrow.{Bor}
 use Rattle.std.specs.List.{slice_get}
 use Rattle.std.proofs.lemmas.List.{length-map, map-append, take_all, take_more}
@@ -15,7 +15,7 @@ use Rattle.message_tables.specs.Stages.{IsFound}
 use Rattle.message_tables.specs.Tables.{Table, first_of}
 use Rattle.row_values.specs.Kinds.{Kind, judge}
 use Rattle.first_faults.specs.declared.indexed.Span.{Span}
-use Rattle.first_faults.specs.Indexed.{AreGoodFields, AreGoodTo, HaveCome}
+use Rattle.first_faults.specs.Indexed.{AreGoodFields, AreGoodTo}
 
 -- ---- the fields one by one
 
@@ -55,13 +55,6 @@ taken fields place f at =
     within (g ∷ fields) zero at = omega arith
     within (g ∷ fields) (suc place) at =
         let lt : place < length fields = within fields place at in omega (arith, lt)
-
--- and the marks of their tags
-pub come_before : (fields : List Field) (place : ℕ) (f : Field) (come : List Bool)
-    → Some f ≡ slice_get fields place → HaveCome (take place fields ++ f ∷ []) come
-    → HaveCome (take (place + 1) fields) come
-come_before fields place f come at have =
-    subst (λ (fs : List Field). HaveCome fs come) (sym (taken fields place f at)) have
 
 -- ---- what is found
 

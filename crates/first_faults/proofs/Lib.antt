@@ -3,3 +3,4 @@ pub mod FirstFaults
 pub mod Given
 pub mod ByTags
 pub mod GoodFront
+pub mod Marked

@@ -1,6 +1,8 @@
 -- Inside: a table of the code whose rows are found by their tags, and what a pass by it shows.
-use Rattle.std.specs.Prelude.{◌≡◌, ◌==◌, ◌<◌, ◌≤◌, ◌+◌, ◌%◌, ◌||◌, ℕ, Bool, true, false, not, List}
-use Rattle.std.specs.Prelude.{[], ◌∷◌, length, map, Some, None, slice_index_or, if◌then◌else◌}
+use Rattle.std.specs.Prelude.{◌≡◌, ◌==◌, ◌<◌, ◌≤◌, ◌+◌, ◌%◌, ◌||◌, ℕ, Bool, true, false}
+use Rattle.std.specs.Prelude.{not, List, [], ◌∷◌, ◌++◌, length, map, Some, None, slice_index_or}
+use Rattle.std.specs.Prelude.{if◌then◌else◌}
+use Rattle.std.specs.Int.{bit_at}
 use Rattle.std.specs.Borrow.{Bor}
 use Rattle.std.specs.List.{flat_map, list_all, list_any}
 use Rattle.std.specs.declared.option.Option.{Option}
@@ -18,6 +20,8 @@ use Rattle.row_values.specs.CodeKinds.{kind_of}
 use Rattle.row_values.specs.Kinds.{Kind, judge}
 use Rattle.first_faults.specs.declared.indexed.TagRow.{TagRow}
 use Rattle.first_faults.specs.declared.indexed.TagRow.TheVariants.{Absent, Own, Member, Passed}
+use Rattle.first_faults.specs.declared.indexed.TagRows.{TagRows}
+use Rattle.first_faults.specs.declared.indexed.Needs.{Needs}
 use Rattle.first_faults.specs.declared.indexed.Span.{Span}
 
 -- ---- rows by their tags
@@ -62,6 +66,44 @@ of_tag tag (Own row) = if row.now.tag == tag then Own row else Absent
 of_tag tag (Member row) = if row.now.tag == tag then Member row else Absent
 of_tag tag (Passed one) = if one == tag then Passed one else Absent
 
+-- the row of a tag, where it is in no group
+abbrev pub own_row : ℕ → TagRow → Option (Bor (CodeRow CodeKind))
+own_row tag (Own row) = if row.now.tag == tag then Some row else None
+own_row tag row = None
+
+abbrev pub tag_of : TagRow → ℕ
+tag_of Absent = 0
+tag_of (Own row) = row.now.tag
+tag_of (Member row) = row.now.tag
+tag_of (Passed tag) = tag
+
+-- ---- the rows at the front, each of which has a bit
+
+-- bits with that of a place set
+pub record IsWithBit (old place new : ℕ) : Type 0 where
+  pub set : bit_at new place ≡ 1
+  pub kept : (other : ℕ) → bit_at old other ≡ 1 → bit_at new other ≡ 1
+  pub only : (other : ℕ) → (other == place) ≡ false → bit_at new other ≡ bit_at old other
+
+-- the place at which the row of a tag stands, if it stands at the front
+abbrev pub front_place : TagRows → ℕ → ℕ
+front_place rows tag = slice_index_or rows.places (tag % 512) 0 % 64
+
+abbrev pub front_row : TagRows → ℕ → Option (Bor (CodeRow CodeKind))
+front_row rows tag = own_row tag (slice_index_or rows.rows (front_place rows tag) Absent)
+
+-- a place at the front at which the row of a tag stands
+pub record IsPlaceOf (rows : TagRows) (tag place : ℕ) : Type 0 where
+  pub within : place < 64
+  pub there : tag_of (slice_index_or rows.rows place Absent) ≡ tag
+
+-- bits of the rows that have a field: a row without its bit has none
+pub record HaveCome (rows : TagRows) (fields : List Field) (come : ℕ) : Type 0 where
+  pub marked : (tag : ℕ) (row : Bor (CodeRow CodeKind)) → Some row ≡ front_row rows tag
+      → has_tag tag fields ≡ true → bit_at come (front_place rows tag) ≡ 1
+  pub said : (place : ℕ) → bit_at come place ≡ 1
+      → has_tag (tag_of (slice_index_or rows.rows place Absent)) fields ≡ true
+
 -- ---- rows that a message may have to say
 
 abbrev pub may_be_needed : Need → Bool
@@ -78,15 +120,29 @@ abbrev pub row_in : Option (Bor (CodeRow CodeKind)) → List (Row Kind)
 row_in None = []
 row_in (Some row) = row_of kind_of row.now ∷ []
 
-abbrev pub AreNeeded : List (CodeItem CodeKind) → List (Option (Bor (CodeRow CodeKind))) → Type 0
-AreNeeded items rows = flat_map row_in rows ≡ flat_map needed_of (map (item_of kind_of) items)
-
 -- a row that has a field, or needs none
 abbrev pub is_said : List Field → Row Kind → Bool
 is_said fields row = has_tag row.tag fields || not (is_needed row.need fields)
 
 abbrev pub AreSaid : List Field → List (Item Kind) → Type 0
 AreSaid fields items = list_all (is_said fields) (flat_map needed_of items) ≡ true
+
+-- rows whose fields tell that each row of items is said: each at the front whose bit is set has a
+-- field, and each of the others is said
+abbrev pub AreNeeded : List (CodeItem CodeKind) → TagRows → Needs → Type 0
+AreNeeded items rows needs = (fields : List Field)
+    → ((place : ℕ) → bit_at needs.required place ≡ 1
+    → has_tag (tag_of (slice_index_or rows.rows place Absent)) fields ≡ true)
+    → list_all (is_said fields) (flat_map row_in needs.others.items) ≡ true
+    → AreSaid fields (map (item_of kind_of) items)
+
+-- one more row, at a place at the front or among the others
+abbrev pub IsOneMore : Needs → Needs → Option ℕ → CodeRow CodeKind → Type 0
+IsOneMore old new (Some place) row =
+    IsWithBit old.required place new.required × (new.others.items ≡ old.others.items)
+IsOneMore old new None row = (new.required ≡ old.required)
+    × (flat_map row_in new.others.items
+    ≡ flat_map row_in old.others.items ++ row_of kind_of row ∷ [])
 
 -- ---- the pass
 
@@ -101,11 +157,6 @@ pub record IsGoodField (table : Table Kind) (fields : List Field) (place : ℕ) 
     : Type 0 where
   pub loose : IsLoose judge fields table place
   pub alone : apart ≡ true → IsAlone table (slice_index_or fields place (0, [])).0
-
--- marks of the tags of fields by their remainders by 256: a tag without a mark is that of no field
-abbrev pub HaveCome : List Field → List Bool → Type 0
-HaveCome fields come =
-    (tag : ℕ) → has_tag tag fields ≡ true → slice_index_or come (tag % 256) false ≡ true
 
 -- a span of places, with one more behind it
 abbrev pub with_place : Span → ℕ → Bool → Span

@@ -1,9 +1,10 @@
 //! A table whose rows are found by their tags, and one pass over the fields of a message by it.
 
-ghost use Rattle.std.specs.Prelude.{◌≡◌, ◌<◌, ◌&&◌, ◌++◌, ◌∷◌, ℕ, List, [], IfSome, IsTrue, None};
+ghost use Rattle.std.specs.Prelude.{◌≡◌, ◌<◌, ◌+◌, ◌&&◌, List, IfSome, IsTrue, None};
 ghost use Rattle.std.specs.Prelude.{IfNone, Some, false, map, slice_get, take, true};
+ghost use Rattle.std.specs.Int.{bit_at};
 ghost use Rattle.std.specs.List.{AllByRecursion, flat_map, list_all};
-ghost use Rattle.field_groups.specs.Field.{Field as ReadField};
+ghost use Rattle.message_tables.specs.declared.table.Item.{Item as CodeItem};
 ghost use Rattle.message_tables.specs.declared.table.Table.{Table as CodeTable};
 ghost use Rattle.message_tables.specs.CodeTables.{group_of, item_of, need_of, row_of};
 ghost use Rattle.message_tables.specs.CodeTables.{table_of as code_table};
@@ -16,6 +17,8 @@ ghost use Rattle.row_values.specs.declared.kinds.Kind.{Kind as CodeKind};
 ghost use Rattle.row_values.specs.CodeKinds.{kind_of};
 ghost use Rattle.row_values.specs.Kinds.{judge};
 ghost use Rattle.first_faults.specs.Indexed.{AreGoodTo, AreNeeded, AreSaid, AreTagRows, HaveCome};
+ghost use Rattle.first_faults.specs.Indexed.{IsOneMore, IsPlaceOf, front_place, front_row, own_row};
+ghost use Rattle.first_faults.specs.Indexed.{IsWithBit};
 ghost use Rattle.first_faults.specs.Indexed.{IsApartItem, IsGoodField, IsRowOf, IsTagRow};
 ghost use Rattle.first_faults.specs.Indexed.{IsWholeItem};
 ghost use Rattle.first_faults.specs.Indexed.{is_said, may_be_needed, needed_of, of_tag};
@@ -36,14 +39,11 @@ const REMAINDERS: usize = 512;
 /// of two, so that a place among them is known to be one without a test.
 const MAX_ROWS: usize = 128;
 
+/// The rows at the front, each of which has a bit of a `u64`. Rows of no group come first.
+const FRONT: usize = 64;
+
 /// The most rows that a message may have to say.
 const MAX_NEEDED: usize = 32;
-
-/// How many marks of the tags that came there are.
-const MARKS: usize = 256;
-
-/// Marks of the tags that came, by their remainders.
-type Come = [bool; MARKS];
 
 /// The first row of a tag in a table.
 #[derive(Clone, Copy)]
@@ -81,6 +81,17 @@ impl TagRow {
             } else {
                 TagRow::Absent
             },
+        }
+    }
+
+    /// The row, where it is that of a tag and in no group.
+    #[inline(always)]
+    fn own(self, tag: u32) -> Option<&'static Row<Kind>>
+        ensures { result ≡ own_row tag self }
+    {
+        match self {
+            TagRow::Own(row) => if row.tag == tag { Some(row) } else { None },
+            _ => None,
         }
     }
 }
@@ -152,19 +163,26 @@ impl TagRows {
         }
     }
 
-    /// Keeps the rows of an item.
-    fn keep_item(&mut self, table: &'static Table<Kind>, groups: &TagMarks, item: &Item<Kind>)
+    /// Keeps the row of an item.
+    fn keep_one(&mut self, table: &'static Table<Kind>, groups: &TagMarks, item: &Item<Kind>)
         requires rows { AreTagRows table.now self.old.rows }
         requires groups { AreGroupsMarked (own table.now) groups.now }
         ensures { AreTagRows table.now self.new.rows }
     {
-        match item {
-            Item::One(row) => self.keep(table, groups, row.tag),
-            Item::Party(_) => {}
-            Item::Lines(group) => {
-                self.keep(table, groups, group.count);
-                self.keep_all(table, groups, group.rows);
-            }
+        if let Item::One(row) = item {
+            self.keep(table, groups, row.tag);
+        }
+    }
+
+    /// Keeps the rows of an item's group.
+    fn keep_group(&mut self, table: &'static Table<Kind>, groups: &TagMarks, item: &Item<Kind>)
+        requires rows { AreTagRows table.now self.old.rows }
+        requires groups { AreGroupsMarked (own table.now) groups.now }
+        ensures { AreTagRows table.now self.new.rows }
+    {
+        if let Item::Lines(group) = item {
+            self.keep(table, groups, group.count);
+            self.keep_all(table, groups, group.rows);
         }
     }
 
@@ -176,7 +194,10 @@ impl TagRows {
         let groups = table.group_marks();
         rows.keep_all(table, &groups, table.header);
         for item in table.items {
-            rows.keep_item(table, &groups, item);
+            rows.keep_one(table, &groups, item);
+        }
+        for item in table.items {
+            rows.keep_group(table, &groups, item);
         }
         rows
     }
@@ -189,6 +210,71 @@ impl TagRows {
     {
         let place = self.places[tag as usize % REMAINDERS];
         self.rows[place as usize % MAX_ROWS].of(tag)
+    }
+
+    /// The place at the front at which the row of a tag stands, if it stands there.
+    #[inline(always)]
+    fn front_place(&self, tag: u32) -> usize
+        ensures place { result ≡ front_place self.now tag }
+        ensures front { result < FRONT }
+    {
+        self.places[tag as usize % REMAINDERS] as usize % FRONT
+    }
+
+    /// The first row of a tag, where it is found at the front and is in no group.
+    #[inline(always)]
+    fn front_row(&self, table: &'static Table<Kind>, tag: u32) -> Option<&'static Row<Kind>>
+        requires { AreTagRows table.now self.now.rows }
+        ensures row { result ≡ front_row self.now tag }
+        ensures first { IfSome result (λ row. IsRowOf table.now tag (TagRow.Own row)) }
+    {
+        self.rows[self.front_place(tag)].own(tag)
+    }
+
+    /// The place at the front of a row of a tag that is in no group, if one stands there.
+    fn own_place(&self, tag: u32) -> Option<usize>
+        ensures { IfSome result (IsPlaceOf self.now tag) }
+    {
+        let place = self.front_place(tag);
+        match self.rows[place].own(tag) {
+            Some(_) => Some(place),
+            None => None,
+        }
+    }
+
+    /// The place at the front of a row that each message says, where it is in no group.
+    fn required_place(&self, row: &Row<Kind>) -> Option<usize>
+        ensures { IfSome result (IsPlaceOf self.now row.now.tag) }
+    {
+        match row.need {
+            Need::Required => self.own_place(row.tag),
+            _ => None,
+        }
+    }
+
+    /// Whether a field is good and the first one of a row at the front that is in no group, as most
+    /// are. The rows of the fields that came are marked.
+    #[inline(always)]
+    fn is_own(
+        &self,
+        table: &'static Table<Kind>,
+        fields: &Fields<'_>,
+        place: usize,
+        field: Field<'_>,
+        come: &mut u64,
+    ) -> bool
+        requires rows { AreTagRows table.now self.now.rows }
+        requires at { Some (field.0, field.1.now) ≡ slice_get fields.now place }
+        requires come { HaveCome self.now (take place fields.now) come.old }
+        ensures good { IsTrue result
+            → IsGoodField (code_table kind_of table.now) fields.now place true }
+        ensures come { HaveCome self.now (take (place + 1) fields.now) come.new }
+    {
+        let (tag, value) = field;
+        match self.front_row(table, tag) {
+            Some(row) => is_new(come, self.front_place(tag)) && row.kind.accepts(fields, value),
+            None => false,
+        }
     }
 }
 
@@ -219,20 +305,57 @@ fn needed_row(item: &'static Item<Kind>) -> Option<&'static Row<Kind>>
     }
 }
 
-/// The rows of items that a message may have to say; `None` where there are more than 32.
-fn needed_rows(items: &'static [Item<Kind>]) -> Option<Needed>
-    ensures { IfSome result (λ needed. AreNeeded items.now needed.items) }
-{
-    let mut needed = ArrayVec::new();
-    for item in items {
-        if let Some(row) = needed_row(item) {
-            match needed.try_push(Some(row)) {
-                Ok(()) => {}
-                Err(_) => return None,
+/// The rows that a message may have to say.
+#[derive(Drop)]
+struct Needs {
+    // The bits of those at the front that each message says.
+    required: u64,
+    others: Needed,
+}
+
+impl Needs {
+    /// Keeps one more row; `false` where there is no room for it.
+    fn keep(&mut self, place: Option<usize>, row: &'static Row<Kind>) -> bool
+        requires { IfSome place (λ at. at < FRONT) }
+        ensures { IsTrue result → IsOneMore self.old self.new place row.now }
+    {
+        match place {
+            Some(at) => {
+                self.required |= 1 << at;
+                true
             }
+            None => self.others.try_push(Some(row)).is_ok(),
         }
     }
-    Some(needed)
+
+    /// The rows of a table, of which those that are required are found at the front; `None` where
+    /// there are more than 32 others.
+    fn of(table: &'static Table<Kind>, rows: &TagRows) -> Option<Needs>
+        ensures { IfSome result (AreNeeded table.now.items.now rows.now) }
+    {
+        let mut needs = Needs {
+            required: 0,
+            others: ArrayVec::new(),
+        };
+        for item in table.items {
+            if let Some(row) = needed_row(item) {
+                if !needs.keep(rows.required_place(row), row) {
+                    return None;
+                }
+            }
+        }
+        Some(needs)
+    }
+
+    /// Whether each row has a field, or needs none, where the rows of these fields are marked.
+    #[inline(always)]
+    fn are_said(&self, fields: &Fields<'_>, come: u64) -> bool
+        ensures { IsTrue result → (rows : TagRows) → HaveCome rows fields.now come
+            → (items : List (CodeItem CodeKind)) → AreNeeded items rows self.now
+            → AreSaid fields.now (map (item_of kind_of) items) }
+    {
+        self.required & come == self.required && are_said(self.others.as_slice(), fields)
+    }
 }
 
 /// Whether a row has a field, or needs none.
@@ -350,18 +473,29 @@ fn is_loose(table: &Table<Kind>, fields: &Fields<'_>, place: usize) -> bool
     }
 }
 
-/// Whether no tag of this remainder came yet. It is marked.
+/// Whether a bit was not set yet. It is set.
 #[inline(always)]
-fn is_new(come: &mut Come, tag: u32) -> bool
-    ensures new { IsTrue result → (before : List ReadField) → HaveCome before come.old
-        → has_tag tag before ≡ false }
-    ensures come { (before : List ReadField) (value : List ℕ) → HaveCome before come.old
-        → HaveCome (before ++ (tag, value) ∷ []) come.new }
+fn is_new(come: &mut u64, place: usize) -> bool
+    requires { place < FRONT }
+    ensures new { IsTrue result → bit_at come.old place ≡ 0 }
+    ensures come { IsWithBit come.old place come.new }
 {
-    let mark = tag as usize % MARKS;
-    let came = come[mark];
-    come[mark] = true;
-    !came
+    let came = *come >> place & 1;
+    *come |= 1 << place;
+    came == 0
+}
+
+/// Whether each row that is needed has a field, where the rows of these fields are marked.
+#[inline(always)]
+fn are_said_by(needs: &Option<Needs>, fields: &Fields<'_>, come: u64) -> bool
+    ensures { IsTrue result → (rows : TagRows) → HaveCome rows fields.now come
+        → (items : List (CodeItem CodeKind)) → IfSome needs.now (AreNeeded items rows)
+        → AreSaid fields.now (map (item_of kind_of) items) }
+{
+    match needs {
+        None => false,
+        Some(needs) => needs.are_said(fields, come),
+    }
 }
 
 /// A table whose rows are found by their tags.
@@ -369,7 +503,7 @@ fn is_new(come: &mut Come, tag: u32) -> bool
 pub struct Indexed {
     table: &'static Table<Kind>,
     rows: TagRows,
-    needed: Option<Needed>,
+    needs: Option<Needs>,
 }
 
 impl Model for Indexed {
@@ -385,7 +519,7 @@ impl Model for Indexed {
     ghost view = { λ i. table_of kind_of i.table.now };
 
     ghost invariant = { λ i. AreTagRows i.table.now i.rows.rows
-        × IfSome i.needed (λ needed. AreNeeded i.table.now.items.now needed.items) };
+        × IfSome i.needs (AreNeeded i.table.now.items.now i.rows) };
 }
 
 impl Indexed {
@@ -393,11 +527,9 @@ impl Indexed {
     pub fn new(table: &'static Table<Kind>) -> Indexed
         ensures { result ≡ code_table kind_of table.now }
     {
-        Indexed {
-            table,
-            rows: TagRows::of(table),
-            needed: needed_rows(table.items),
-        }
+        let rows = TagRows::of(table);
+        let needs = Needs::of(table, &rows);
+        Indexed { table, rows, needs }
     }
 
     /// The table.
@@ -408,35 +540,7 @@ impl Indexed {
         self.table
     }
 
-    /// Whether a field is good and the first one of a row that is in no group, as most are; `new`
-    /// tells that its tag did not come before.
-    #[inline(always)]
-    fn is_own(&self, fields: &Fields<'_>, place: usize, field: Field<'_>, new: bool) -> bool
-        requires at { Some (field.0, field.1.now) ≡ slice_get fields.now place }
-        requires new { IsTrue new → has_tag field.0 (take place fields.now) ≡ false }
-        ensures { IsTrue result → IsGoodField self.now fields.now place true }
-    {
-        let (tag, value) = field;
-        match self.rows.get(self.table, tag) {
-            TagRow::Own(row) => new && row.kind.accepts(fields, value),
-            _ => false,
-        }
-    }
-
     /// Whether the field at a place is in no group; `None` where it is not good.
-    #[inline(always)]
-    fn judge(&self, fields: &Fields<'_>, place: usize, field: Field<'_>, new: bool) -> Option<bool>
-        requires at { Some (field.0, field.1.now) ≡ slice_get fields.now place }
-        requires new { IsTrue new → has_tag field.0 (take place fields.now) ≡ false }
-        ensures { IfSome result (IsGoodField self.now fields.now place) }
-    {
-        if self.is_own(fields, place, field, new) {
-            return Some(true);
-        }
-        self.judge_any(fields, place)
-    }
-
-    /// The same of any field.
     #[inline(never)]
     fn judge_any(&self, fields: &Fields<'_>, place: usize) -> Option<bool>
         ensures { IfSome result (IsGoodField self.now fields.now place) }
@@ -466,17 +570,6 @@ impl Indexed {
         }
     }
 
-    /// Whether each row that is needed has a field.
-    #[inline(always)]
-    fn are_said(&self, fields: &Fields<'_>) -> bool
-        ensures { IsTrue result → AreSaid fields.now self.now.items }
-    {
-        match &self.needed {
-            None => false,
-            Some(needed) => are_said(needed.as_slice(), fields),
-        }
-    }
-
     /// How many fields at the front one pass finds good; `None` where it shows that all fields are
     /// at no fault.
     #[inline(always)]
@@ -485,17 +578,18 @@ impl Indexed {
         ensures good { IfSome result (AreGoodTo self.now fields.now) }
     {
         let parts = fields.as_slice();
-        let mut come = [false; MARKS];
+        let rows = &self.rows;
+        let mut come = 0;
         let mut span = Span { from: 0, to: 0 };
         for place in 0..fields.len() {
-            let field = parts[place];
-            let new = is_new(&mut come, field.0);
-            match self.judge(fields, place, field, new) {
-                None => return Some(place),
-                Some(alone) => span = span.with(place, alone),
+            if !rows.is_own(self.table, fields, place, parts[place], &mut come) {
+                match self.judge_any(fields, place) {
+                    None => return Some(place),
+                    Some(alone) => span = span.with(place, alone),
+                }
             }
         }
-        if !self.are_said(fields) {
+        if !are_said_by(&self.needs, fields, come) {
             return Some(parts.len());
         }
         if span.to == 0 {

@@ -1,6 +1,0 @@
-use Rattle.std.proofs.Common.{take}
-use Rattle.first_faults.specs.Indexed.{AreNeeded}
-use Rattle.first_faults.proofs.indexed.needed_rows.Given as goal
-
-abbrev pub invariant-loop-item : goal.invariant-loop-item
-invariant-loop-item l = AreNeeded (take l.item-index l.items) l.needed.items
