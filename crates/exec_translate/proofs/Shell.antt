@@ -1,6 +1,6 @@
 -- A report as a struct: without its parties it is sound, too, and has few fields; its content is
 -- split and read, and so is that of what goes down.
-use Rattle.std.proofs.Common.{◌≡◌, ℕ, List, [], ◌∷◌, ◌++◌, true, false, None, Ok, refl, sym, ap}
+use Rattle.std.proofs.Common.{◌≡◌, ℕ, List, [], ◌∷◌, ◌++◌, true, None, Ok, refl, sym, ap}
 use Rattle.std.proofs.Common.{◌∙◌, arith, codes, drop, lit≤, map, take, Option, Some, Err, subst}
 use Rattle.std.specs.List.{AllByRecursion, list_all}
 use Rattle.field_groups.specs.Data.{is_data_tag}
@@ -14,7 +14,7 @@ use Rattle.message_tables.specs.Tables.{first_of, groups_in, is_listed, said_at,
 use Rattle.value_kinds.specs.ValueKind.{Day, spelling}
 use Rattle.row_values.specs.Contras.{contra_cells}
 use Rattle.row_values.specs.Kinds.{Kind, judge, verdict_of}
-use Rattle.rows_fix50.specs.Header.{completed_by, table}
+use Rattle.rows_fix50.specs.Header.{table}
 use Rattle.reports_fix50.specs.Message.{cancel_reject_table, message50, report_table}
 use Rattle.reports_fix50.specs.Message.{report_table_of}
 use Rattle.reports_fix50.specs.Reports.{execution_report}
@@ -23,46 +23,65 @@ use Rattle.reports_fix50.specs.declared.reports.CancelReject50.{CancelReject50}
 use Rattle.reports_fix50.specs.declared.reports.Report50.{Report50}
 use Rattle.sound_laws.specs.Complete.{IsComplete}
 use Rattle.sound_laws.specs.Sound.{IsItem, IsSound, without_resend}
-use Rattle.sound_laws.proofs.Completed.{completed_again}
-use Rattle.sound_laws.proofs.ContentAgain.{read_again}
+use Rattle.sound_laws.proofs.ContentAgain.{content_again}
 use Rattle.sound_laws.proofs.ContentValues.{GroupSaid, groups_said, is_alone, value_said}
 use Rattle.sound_laws.proofs.Each.{◌&◌, both}
 use Rattle.sound_laws.proofs.Judged50.{AreAlike}
-use Rattle.sound_laws.proofs.Lookups.{places_apart}
 use Rattle.sound_laws.proofs.PlainFields.{AreFew, all_of, few_of, times}
 use Rattle.sound_laws.proofs.ReadAgain as again
 use Rattle.sound_laws.proofs.TableFits as fits
 use Rattle.sound_laws.proofs.CompletedSound.{KeepsType, is_ours, is_ours_row, ours, same_kept}
-use Rattle.exec_translate.specs.Down.{bare, once, Lacks, with_parties}
-use Rattle.std.specs.Prelude.{IfSome}
+use Rattle.exec_translate.specs.Down.{IsGoodBody, Lacks, Says, bare, once, with_parties}
+use Rattle.std.specs.Prelude.{IfSome, Result}
 use Rattle.field_groups.specs.declared.fault.SplitFault.{SplitFault}
 use Rattle.field_groups.proofs.Determined.{determined}
+use Rattle.order_meaning.specs.declared.fault.Fault.{Fault}
 use Rattle.order_meaning.specs.declared.fault.Lack.{Lack}
 use Rattle.order_meaning.specs.declared.fault.Lack.TheVariants as lacks
 use Rattle.first_faults.specs.Faults.{message_by}
 use Rattle.rows_fix50.specs.Meaning.{id_of}
 use Rattle.reports_fix42.specs.Message as tables42
+use Rattle.reports_fix42.specs.Message.{message42}
 use Rattle.reports_fix42.specs.Said as said42
 use Rattle.reports_fix42.specs.declared.reports.CancelReject42.{CancelReject42}
 use Rattle.reports_fix42.specs.declared.reports.Report42.{Report42}
 use Rattle.rule_rows.specs.ByRules.{by_rules, lack_by, or_lack}
-use Rattle.report_rules.specs.Down.{IsGoodBy, IsId, IsPut, LacksDown, PutsDown, Rejects50}
-use Rattle.report_rules.specs.Down.{Reports50, StandsFor}
-use Rattle.report_rules.specs.Rules.{Original, Same, down_message, down_rules, kinds, table_at}
-use Rattle.report_rules.specs.Rules.{written}
-use Rattle.report_rules.proofs.GoDown.{Down, down_by, goes_down, reject_sound, report_sound}
-use Rattle.report_rules.proofs.GoDown.{rules_of}
+use Rattle.report_rules.specs.Down.{IsGoodBy, IsId, IsPut, IsReport42, IsReport50, LacksDown}
+use Rattle.report_rules.specs.Down.{Rejects42, Rejects50, Reports42, Reports50}
+use Rattle.report_rules.specs.Rules.{down_message, kinds, rules_for, table_at, written}
+use Rattle.report_rules.proofs.GoDown.{down_by, goes_down}
 
--- few fields are split again
-pub few_again : (fields : List Field) → AreFew fields → SplitsInto (body_of fields) fields None
-few_again fields few = plain_again fields (all_of fields few.plain) (omega (arith, few.few))
+-- a body that is few fields is split into them
+split_is : (body : List ℕ) (own fields : List Field) (fault : Option SplitFault)
+    → body ≡ body_of own → AreFew own → SplitsInto body fields fault
+    → (fields ≡ own) × (fault ≡ None)
+split_is body own fields fault is few split =
+    let P : List ℕ → Type 0 = λ b. SplitsInto b fields fault in
+    let again = plain_again own (all_of own few.plain) (omega (arith, few.few)) in
+    determined (body_of own) fields own fault None (subst P is split) again
 
--- WHAT THE CONTENT OF A REPORT SAYS, where it is split again
-pub record IsReady (type : List ℕ) (table : Table Kind) (m : Message) : Type 0 where
-  pub complete : IsComplete table m
-  pub good : first_fault judge table (content table m) ≡ None
-  pub splits : SplitsInto (body_of (content table m)) (content table m) None
-  pub read : message50 type (content table m) None ≡ Ok m
+-- THE CONTENT OF A REPORT, which is split again: its fields are at no fault, and say the report.
+module _ (type : List ℕ) (table : Table Kind) (m : Message)
+    (typed : report_table_of type ≡ Some table) (fit : fits.table_fits table [] ≡ true)
+    (sound : IsSound judge table m) (few : AreFew (content table m))
+    (read : message50 type (content table m) None ≡ Ok m) {none written body : List ℕ}
+    (empty : none ≡ []) (is : written ≡ none ++ body_of (content table m))
+    (copied : body ≡ written) where
+  same : (fields : List Field) (fault : Option SplitFault) → SplitsInto body fields fault
+      → fields ≡ content table m
+  same fields fault split =
+      let all = copied ∙ is ∙ ap (λ (b : List ℕ). b ++ body_of (content table m)) empty in
+      (split_is body (content table m) fields fault all few split).0
+
+  content_says : IsGoodBody type body × Says type body m
+  content_says = (
+    λ fields fault split.
+        let P : Option (Table Kind) → Type 0 = λ t. IsGoodBy t fields in
+        let good = again.no_fault judge table m [] (fits.is_table table m [] fit tt) sound.items in
+        subst P (sym typed) (ap (first_fault judge table) (same fields fault split) ∙ good),
+    λ fields fault split.
+        ap (λ (fs : List Field). message50 type fs None) (same fields fault split) ∙ read,
+  )
 
 module _ (msg : Report50) (c : IsComplete report_table (report_says msg)) where
   abbrev m : Message
@@ -150,17 +169,15 @@ module _ (msg : Report50) (c : IsComplete report_table (report_says msg)) where
   unfolding is_data_tag times
   few = few_of judge few_table few_message refl (lit≤ tt) few_sound
 
-  pub report_ready : IsReady (codes "8") report_table b
+  pub report_content : {none written body : List ℕ} → none ≡ []
+      → written ≡ none ++ body_of after → body ≡ written
+      → IsGoodBody (codes "8") body × Says (codes "8") body b
   unfolding message50
-  report_ready = record {
-    complete = record { sound = bare_sound; month = c.month };
-    good = again.no_fault judge report_table b [] (fits.is_table report_table b [] refl tt)
-        bare_sound.items;
-    splits = few_again after few;
-    read = ap completed_by (read_again report_table b refl refl bare_sound)
-        ∙ ap (λ (x : Message). Ok x)
-        (completed_again b c.month (ap places_apart bare_sound.places) false);
-  }
+  report_content = content_says (codes "8") report_table b refl refl bare_sound few
+      (content_again report_table b refl refl bare_sound c.month)
+
+  pub bare_report : IsReport50 b
+  bare_report = Reports50 (record { sound = bare_sound; month = c.month })
 
 module _ (msg : CancelReject50) (c : IsComplete cancel_reject_table (cancel_reject_says msg)) where
   abbrev q : Message
@@ -174,209 +191,140 @@ module _ (msg : CancelReject50) (c : IsComplete cancel_reject_table (cancel_reje
     items = c.sound.items;
   }
 
-  pub reject_ready : IsReady (codes "9") cancel_reject_table q
+  pub reject_content : {none written body : List ℕ} → none ≡ []
+      → written ≡ none ++ body_of (content cancel_reject_table q) → body ≡ written
+      → IsGoodBody (codes "9") body × Says (codes "9") body q
   unfolding is_data_tag times message50
-  reject_ready = record {
-    complete = record { sound = once_sound; month = c.month };
-    good = again.no_fault judge cancel_reject_table q []
-        (fits.is_table cancel_reject_table q [] refl tt) once_sound.items;
-    splits = few_again (content cancel_reject_table q)
-        (few_of judge cancel_reject_table q refl (lit≤ tt) once_sound);
-    read = ap completed_by (read_again cancel_reject_table q refl refl once_sound)
-        ∙ ap (λ (x : Message). Ok x)
-        (completed_again q c.month (ap places_apart once_sound.places) false);
-  }
+  reject_content = content_says (codes "9") cancel_reject_table q refl refl once_sound
+      (few_of judge cancel_reject_table q refl (lit≤ tt) once_sound)
+      (content_again cancel_reject_table q refl refl once_sound c.month)
 
--- a body that is these fields is split into them
-split_is : (body : List ℕ) (own fields : List Field) (fault : Option SplitFault)
-    → body ≡ body_of own → SplitsInto (body_of own) own None
-    → SplitsInto body fields fault → (fields ≡ own) × (fault ≡ None)
-split_is body own fields fault is again split =
-    let P : List ℕ → Type 0 = λ b. SplitsInto b fields fault in
-    determined (body_of own) fields own fault None (subst P is split) again
+  pub once_reject : IsReport50 q
+  once_reject = Rejects50 (record { sound = once_sound; month = c.month })
 
--- ---- the content of a report of FIX 5.0 SP2
+pub lacks_of : (type : List ℕ) (known : Said) (fields : List Field) (lack : Lack)
+    → LacksDown type known fields lack → (m : Message) → message50 type fields None ≡ Ok m
+    → Lacks known m lack
+lacks_of type known fields lacks.NoMemory h m is = tt
+lacks_of type known fields (lacks.Tag tag) h m is = h m is
 
-module _ {type : List ℕ} {table : Table Kind} {m : Message} {none written body : List ℕ}
-    {fields : List Field} {fault : Option SplitFault} (ready : IsReady type table m)
-    (typed : report_table_of type ≡ Some table) (empty : none ≡ [])
-    (is : written ≡ none ++ body_of (content table m)) (copied : body ≡ written)
-    (split : SplitsInto body fields fault) where
-  same : fields ≡ content table m
-  same =
-      let all = copied ∙ is ∙ ap (λ (b : List ℕ). b ++ body_of (content table m)) empty in
-      (split_is body (content table m) fields fault all ready.splits split).0
-
-  pub is_good : IsGoodBy (report_table_of type) fields
-  is_good =
-      let P : Option (Table Kind) → Type 0 = λ t. IsGoodBy t fields in
-      subst P (sym typed) (ap (first_fault judge table) same ∙ ready.good)
-
-  read : message50 type fields None ≡ Ok m
-  read = ap (λ (fs : List Field). message50 type fs None) same ∙ ready.read
-
-  pub is_put : (known : Said) (old new : List ℕ) → old ≡ []
-      → PutsDown type known fields old new → IsPut known m [] new
-  is_put known old new first h =
-      let P : List ℕ → Type 0 = λ b. IsPut known m b new in subst P first (h m read)
-
-  pub is_lack : (known : Said) (lack : Lack) → LacksDown type known fields lack
-      → Lacks known m lack
-  is_lack known lacks.NoMemory h = tt
-  is_lack known (lacks.Tag tag) h = h m read
-
--- ---- the content of what goes down
-
-pub record IsRead (table : Table Kind) (w : Message) : Type 0 where
-  pub splits : SplitsInto (body_of (written w)) (written w) None
-  pub read : message_by (Some table) (written w) None ≡ Ok (without_resend w)
-
-read_by : (table : Table Kind) (w : Message) → AreFew (content table w)
-    → message_by (Some table) (content table w) None ≡ Ok (without_resend w)
-    → written w ≡ content table w → IsRead table w
-read_by table w few again is = record {
-  splits =
-      let P : List Field → Type 0 = λ fs. SplitsInto (body_of fs) fs None in
-      subst P (sym is) (few_again (content table w) few);
-  read = ap (λ (fs : List Field). message_by (Some table) fs None) is ∙ again;
-}
-
-pub report_reads : (m w : Message) → IsComplete report_table m → down_message None m ≡ Ok w
-    → IsRead tables42.execution_report_table w
+-- WHAT GOES DOWN is read again
+few_down : (w : Message) → IsReport42 w → AreFew (written w)
 unfolding is_data_tag times
-report_reads m w c down =
-    let t = tables42.execution_report_table in
-    let sound : IsSound judge t w = report_sound m w c
-    (down_by None m w (down_rules (Same 41)) (rules_of None m 56 c.sound.letter) down) in
-    read_by t w (few_of judge t w refl (lit≤ tt) sound) (read_again t w refl refl sound)
-    (ap (λ (l : ℕ). content (table_at l) w) sound.letter)
+few_down w (Reports42 sound) =
+    let P : ℕ → Type 0 = λ l. AreFew (content (table_at l) w) in
+    subst P (sym sound.letter) (few_of judge tables42.execution_report_table w refl (lit≤ tt) sound)
+few_down w (Rejects42 sound) =
+    let P : ℕ → Type 0 = λ l. AreFew (content (table_at l) w) in
+    subst P (sym sound.letter) (few_of judge tables42.cancel_reject_table w refl (lit≤ tt) sound)
 
-pub reject_reads : (known : Said) → IfSome known IsId → (m w : Message)
-    → IsComplete cancel_reject_table m → down_message known m ≡ Ok w
-    → IsRead tables42.cancel_reject_table w
-unfolding is_data_tag times
-reject_reads known id m w c down =
-    let t = tables42.cancel_reject_table in
-    let sound : IsSound judge t w = reject_sound known id m w c
-    (down_by known m w (down_rules (Original known)) (rules_of known m 57 c.sound.letter) down) in
-    read_by t w (few_of judge t w refl (lit≤ tt) sound) (read_again t w refl refl sound)
-    (ap (λ (l : ℕ). content (table_at l) w) sound.letter)
-
-module _ (known : Said) (m : Message) (body : List ℕ) (put : IsPut known m [] body)
-    (table : Table Kind) (r : IsRead table put.w) (fields : List Field) (fault : Option SplitFault)
-    (split : SplitsInto body fields fault) where
-  reads : message_by (Some table) fields fault ≡ Ok (without_resend put.w)
-  reads =
-      let same = split_is body (written put.w) fields fault put.bytes r.splits split in
-      (λ i. message_by (Some table) (same.0 i) (same.1 i)) ∙ r.read
-
-  pub says_it : (x : Message) → message_by (Some table) fields fault ≡ Ok x
-      → x ≡ without_resend put.w
-  says_it x h = let e = sym h ∙ reads in cc
-
--- ---- what a content does not have
+one_message : (told : Result Message Fault) (r w : Message) → told ≡ Ok r → told ≡ Ok w → r ≡ w
+one_message told r w read again = let e = sym read ∙ again in cc
 
 same_lack : (lack : Option ℕ) (x y : Message) (tag : ℕ) → or_lack lack x ≡ Err tag
     → or_lack lack y ≡ Err tag
 same_lack None x y tag h = absurd cc
 same_lack (Some other) x y tag h = h
 
+-- A MESSAGE, and the one that its content says: what of the first the content does not have is put
+-- back into what goes down.
+record AreAlikeDown (known : Said) (m b : Message) (put : Message → Message) : Type 0 where
+  lack : lack_by kinds (rules_for known b) b ≡ lack_by kinds (rules_for known m) m
+  back : put (by_rules kinds (rules_for known b) b) ≡ by_rules kinds (rules_for known m) m
+
+module _ (known : Said) (m b : Message) (back : Message → Message)
+    (alike : AreAlikeDown known m b back) where
+  lacks_alike : (lack : Lack) → Lacks known b lack → Lacks known m lack
+  lacks_alike lacks.NoMemory h = tt
+  lacks_alike (lacks.Tag tag) h =
+      let rules = by_rules kinds (rules_for known m) m in
+      ap (λ (l : Option ℕ). or_lack l rules) (sym alike.lack)
+      ∙ same_lack (lack_by kinds (rules_for known b) b) (by_rules kinds (rules_for known b) b) rules
+      tag h
+
+  module _ (id : IfSome known IsId) (b50 : IsReport50 b)
+      (resent : (x : Message) → back (without_resend x) ≡ back x) {content body : List ℕ}
+      {fields : List Field} {fault : Option SplitFault} (put : IsPut known b [] content)
+      (copied : body ≡ content) (split : SplitsInto body fields fault) (r x : Message)
+      (read : message42 (b.letter ∷ []) fields fault ≡ Ok r) (is : x ≡ back r) where
+    goes_back : down_message known m ≡ Ok x
+    goes_back =
+        let d = down_by known b put.w (rules_for known b) refl put.down in
+        let s = goes_down known id b put.w b50 put.down in
+        let same = split_is body (written put.w) fields fault (copied ∙ put.bytes)
+        (few_down put.w s.sound) split in
+        let letter : b.letter ≡ put.w.letter = ap (λ (y : Message). y.letter) d.is in
+        let again : message42 (b.letter ∷ []) fields fault ≡ Ok (without_resend put.w) =
+        (λ i. message42 (letter i ∷ []) (same.0 i) (same.1 i)) ∙ s.again in
+        let said = one_message _ r (without_resend put.w) read again in
+        let whole : x ≡ by_rules kinds (rules_for known m) m =
+        is ∙ ap back said ∙ resent put.w ∙ ap back (sym d.is) ∙ alike.back in
+        ap (λ (l : Option ℕ). or_lack l (by_rules kinds (rules_for known m) m))
+        (sym alike.lack ∙ d.lack)
+        ∙ ap Ok (sym whole)
+
+module _ (fields : List Field) (fault : Option SplitFault) (m : Message) where
+  read_8 : message_by (Some tables42.execution_report_table) fields fault ≡ Ok m
+      → message42 (codes "8") fields fault ≡ Ok m
+  unfolding message42
+  read_8 h = h
+
+  read_9 : message_by (Some tables42.cancel_reject_table) fields fault ≡ Ok m
+      → message42 (codes "9") fields fault ≡ Ok m
+  unfolding message42
+  read_9 h = h
+
 module _ (msg : Report50) where
-  abbrev patch : Message → Message
-  patch x = record x {
+  abbrev report_back : Message → Message
+  report_back x = record x {
     resend = msg.resend;
     cells = take 4 x.cells ++ (Tag 109, id_of 3 msg.parties) ∷ (Tag 76, id_of 1 msg.parties)
         ∷ (Tag 439, id_of 4 msg.parties) ∷ drop 7 x.cells;
   }
 
+  report_alike : AreAlikeDown None (report_says msg) (report_says (bare msg)) report_back
+  unfolding first_of
+  report_alike = record { lack = refl; back = refl }
+
   pub report_lacks : (lack : Lack) → Lacks None (report_says (bare msg)) lack
       → Lacks None (report_says msg) lack
-  unfolding first_of
-  report_lacks lacks.NoMemory h = tt
-  report_lacks (lacks.Tag tag) h =
-      let all = down_rules (Same 41) in
-      same_lack (lack_by kinds all (report_says msg)) (by_rules kinds all (report_says (bare msg)))
-      (by_rules kinds all (report_says msg)) tag h
+  report_lacks =
+      lacks_alike None (report_says msg) (report_says (bare msg)) report_back report_alike
 
-  pub report_rules : (w : Message) (r : Report42)
-      → down_message None (report_says (bare msg)) ≡ Ok w → said42.report_says r ≡ without_resend w
-      → down_message None (report_says msg) ≡ Ok (said42.report_says (with_parties msg r))
-  unfolding first_of
-  report_rules w r down is =
-      let all = down_rules (Same 41) in
-      let b = report_says (bare msg) in
-      let d : Down all b w = down_by None b w all refl down in
-      let put : said42.report_says (with_parties msg r) ≡ by_rules kinds all (report_says msg) =
-      ap patch is ∙ ap patch (sym d.is) in
-      ap (λ (l : Option ℕ). or_lack l (by_rules kinds all (report_says msg))) d.lack
-      ∙ ap Ok (sym put)
-
-  module _ {content body : List ℕ} {fields : List Field} {fault : Option SplitFault}
-      (c : IsComplete report_table (report_says msg))
-      (put : IsPut None (report_says (bare msg)) [] content) (same : body ≡ content)
-      (split : SplitsInto body fields fault) (r : Report42)
-      (read : message_by (Some tables42.execution_report_table) fields fault
-      ≡ Ok (said42.report_says r))
-      (x : Report42) (is : x ≡ with_parties msg r) where
-    pub report_down : down_message None (report_says msg) ≡ Ok (said42.report_says x)
-    report_down =
-        let b = report_says (bare msg) in
-        let t = tables42.execution_report_table in
-        let there : IsPut None b [] body =
-        record { w = put.w; down = put.down; bytes = same ∙ put.bytes } in
-        let back = report_reads b put.w (report_ready msg c).complete put.down in
-        report_rules put.w r put.down
-        (says_it None b body there t back fields fault split (said42.report_says r) read)
-        ∙ ap (λ (y : Report42). Ok (said42.report_says y)) (sym is)
-
-    pub report_stands : StandsFor None (report_says msg) (said42.report_says x)
-    report_stands =
-        goes_down None tt (report_says msg) (said42.report_says x) (Reports50 c) report_down
+  pub report_goes : IsComplete report_table (report_says msg) → {content body : List ℕ}
+      {fields : List Field} {fault : Option SplitFault}
+      → IsPut None (report_says (bare msg)) [] content → body ≡ content
+      → SplitsInto body fields fault → (r x : Report42)
+      → message_by (Some tables42.execution_report_table) fields fault ≡ Ok (said42.report_says r)
+      → x ≡ with_parties msg r → down_message None (report_says msg) ≡ Ok (said42.report_says x)
+  report_goes c put copied split r x read is =
+      goes_back None (report_says msg) (report_says (bare msg)) report_back report_alike tt
+      (bare_report msg c) (λ x. refl) put copied split (said42.report_says r)
+      (said42.report_says x) (read_8 _ _ _ read) (ap said42.report_says is)
 
 module _ (msg : CancelReject50) (known : Said) where
+  abbrev reject_back : Message → Message
+  reject_back x = record x { resend = msg.resend }
+
+  reject_alike : AreAlikeDown known (cancel_reject_says msg) (cancel_reject_says (once msg))
+      reject_back
+  unfolding first_of
+  reject_alike = record { lack = refl; back = refl }
+
   pub reject_lacks : (lack : Lack) → Lacks known (cancel_reject_says (once msg)) lack
       → Lacks known (cancel_reject_says msg) lack
-  unfolding first_of
-  reject_lacks lacks.NoMemory h = tt
-  reject_lacks (lacks.Tag tag) h =
-      let all = down_rules (Original known) in
-      same_lack (lack_by kinds all (cancel_reject_says msg))
-      (by_rules kinds all (cancel_reject_says (once msg)))
-      (by_rules kinds all (cancel_reject_says msg)) tag h
+  reject_lacks = lacks_alike known (cancel_reject_says msg) (cancel_reject_says (once msg))
+      reject_back reject_alike
 
-  pub reject_rules : (w : Message) (r : CancelReject42)
-      → down_message known (cancel_reject_says (once msg)) ≡ Ok w
-      → said42.cancel_reject_says r ≡ without_resend w
-      → down_message known (cancel_reject_says msg)
+  pub reject_goes : IsComplete cancel_reject_table (cancel_reject_says msg) → IfSome known IsId
+      → {content body : List ℕ} {fields : List Field} {fault : Option SplitFault}
+      → IsPut known (cancel_reject_says (once msg)) [] content → body ≡ content
+      → SplitsInto body fields fault → (r : CancelReject42)
+      → message_by (Some tables42.cancel_reject_table) fields fault
+      ≡ Ok (said42.cancel_reject_says r) → down_message known (cancel_reject_says msg)
       ≡ Ok (said42.cancel_reject_says (record r { resend = msg.resend }))
-  unfolding first_of
-  reject_rules w r down is =
-      let all = down_rules (Original known) in
-      let again : Message → Message = λ x. record x { resend = msg.resend } in
-      let q = cancel_reject_says (once msg) in
-      let d : Down all q w = down_by known q w all refl down in
-      let put : said42.cancel_reject_says (record r { resend = msg.resend })
-      ≡ by_rules kinds all (cancel_reject_says msg) = ap again is ∙ ap again (sym d.is) in
-      ap (λ (l : Option ℕ). or_lack l (by_rules kinds all (cancel_reject_says msg))) d.lack
-      ∙ ap Ok (sym put)
-
-  module _ {content body : List ℕ} {fields : List Field} {fault : Option SplitFault}
-      (c : IsComplete cancel_reject_table (cancel_reject_says msg)) (id : IfSome known IsId)
-      (put : IsPut known (cancel_reject_says (once msg)) [] content) (same : body ≡ content)
-      (split : SplitsInto body fields fault) (r : CancelReject42)
-      (read : message_by (Some tables42.cancel_reject_table) fields fault
-      ≡ Ok (said42.cancel_reject_says r)) where
-    pub reject_down : down_message known (cancel_reject_says msg)
-        ≡ Ok (said42.cancel_reject_says (record r { resend = msg.resend }))
-    reject_down =
-        let q = cancel_reject_says (once msg) in
-        let t = tables42.cancel_reject_table in
-        let there : IsPut known q [] body =
-        record { w = put.w; down = put.down; bytes = same ∙ put.bytes } in
-        let back = reject_reads known id q put.w (reject_ready msg c).complete put.down in
-        reject_rules put.w r put.down
-        (says_it known q body there t back fields fault split (said42.cancel_reject_says r) read)
-
-    pub reject_stands : StandsFor known (cancel_reject_says msg)
-        (said42.cancel_reject_says (record r { resend = msg.resend }))
-    reject_stands = goes_down known id (cancel_reject_says msg) _ (Rejects50 c) reject_down
+  reject_goes c id put copied split r read =
+      goes_back known (cancel_reject_says msg) (cancel_reject_says (once msg)) reject_back
+      reject_alike id (once_reject msg c) (λ x. refl) put copied split
+      (said42.cancel_reject_says r) (said42.cancel_reject_says (record r { resend = msg.resend }))
+      (read_9 _ _ _ read) refl

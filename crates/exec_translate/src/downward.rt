@@ -2,6 +2,7 @@
 
 ghost use Rattle.std.specs.Prelude.{◌≡◌, [], None, Ok, IfErr, IfOk, IfSome};
 ghost use Rattle.std.specs.Option.{option_map};
+ghost use Rattle.message_tables.specs.Tables.{Message};
 ghost use Rattle.sound_laws.specs.Complete.{IsComplete};
 ghost use Rattle.reports_fix42.specs.Readable as readable42;
 ghost use Rattle.reports_fix42.specs.Said as said42;
@@ -10,7 +11,7 @@ ghost use Rattle.reports_fix50.specs.Readable.{IsReadableCancelReject, IsReadabl
 ghost use Rattle.reports_fix50.specs.Said.{cancel_reject_says, report_says};
 ghost use Rattle.report_rules.specs.Down.{IsId, IsPut, StandsFor};
 ghost use Rattle.report_rules.specs.Rules.{down_message};
-ghost use Rattle.exec_translate.specs.Down.{Lacks, bare, once, with_parties};
+ghost use Rattle.exec_translate.specs.Down.{IsGoodBody, Lacks, Says, with_parties};
 
 use field_groups::split;
 use order_meaning::Lack;
@@ -20,18 +21,22 @@ use reports_fix42::{CancelReject42, Report42, read_cancel_reject, read_report};
 use reports_fix50::{CancelReject50, Report50, write_cancel_reject, write_without_parties};
 use std::alloc::{AllocError, Global};
 
-/// The content of FIX 4.2 of what a report says besides its parties.
-fn report_content(alloc: Global, msg: &Report50) -> Result<Vec<u8>, Lack>
-    requires sound { IsComplete report_table (report_says msg.now) }
-    requires readable { IsReadableReport msg.now }
-    ensures ok { IfOk result (λ down. IsPut None (report_says (bare msg.now)) [] down.items) }
-    ensures lack { IfErr result (Lacks None (report_says (bare msg.now))) }
+/// The content of FIX 4.2 of a content of FIX 5.0 SP2, by its type, 8 or 9.
+fn content_down(
+    alloc: Global,
+    msg_type: &[u8],
+    content: &[u8],
+    known: Option<&[u8]>,
+) -> Result<Vec<u8>, Lack>
+    requires { IsGoodBody msg_type.now content.now }
+    ensures ok { IfOk result (λ down. (m : Message) → Says msg_type.now content.now m
+        → IsPut (option_map (λ id. id.now) known.entry) m [] down.items) }
+    ensures lack { IfErr result (λ lack. (m : Message) → Says msg_type.now content.now m
+        → Lacks (option_map (λ id. id.now) known.entry) m lack) }
 {
-    let mut content = Vec::new(alloc);
-    write_without_parties(alloc, msg, &mut content)?;
-    let split = split(alloc, &content)?;
+    let split = split(alloc, content)?;
     let mut down = Vec::new(alloc);
-    put_down(alloc, b"8", &split.fields, None, &mut down)?;
+    put_down(alloc, msg_type, &split.fields, known, &mut down)?;
     Ok(down)
 }
 
@@ -68,30 +73,15 @@ pub fn down_report(alloc: Global, msg: &Report50) -> Result<Report42, Lack>
     ensures readable { IfOk result readable42.IsReadableReport }
     ensures lack { IfErr result (Lacks None (report_says msg.now)) }
 {
-    let content = report_content(alloc, msg)?;
-    let split = split(alloc, &content)?;
+    let mut content = Vec::new(alloc);
+    write_without_parties(alloc, msg, &mut content)?;
+    let down = content_down(alloc, b"8", &content, None)?;
+    let split = split(alloc, &down)?;
     match read_report(alloc, &split) {
         Ok(report) => Ok(with_parties(alloc, msg, report)?),
         // What goes down is read again, so that memory alone can be wanted.
         Err(_) => Err(Lack::NoMemory),
     }
-}
-
-/// The content of FIX 4.2 of a cancel reject.
-fn reject_content(alloc: Global, msg: &CancelReject50, orig: Option<&[u8]>) -> Result<Vec<u8>, Lack>
-    requires sound { IsComplete cancel_reject_table (cancel_reject_says msg.now) }
-    requires readable { IsReadableCancelReject msg.now }
-    ensures ok { IfOk result (λ down. IsPut (option_map (λ o. o.now) orig.entry)
-        (cancel_reject_says (once msg.now)) [] down.items) }
-    ensures lack { IfErr result
-        (Lacks (option_map (λ o. o.now) orig.entry) (cancel_reject_says (once msg.now))) }
-{
-    let mut content = Vec::new(alloc);
-    write_cancel_reject(msg, &mut content)?;
-    let split = split(alloc, &content)?;
-    let mut down = Vec::new(alloc);
-    put_down(alloc, b"9", &split.fields, orig, &mut down)?;
-    Ok(down)
 }
 
 /// The cancel reject of FIX 4.2 that stands for a sound one of FIX 5.0 SP2, with the id `orig` that
@@ -117,8 +107,10 @@ pub fn down_cancel_reject(
     ensures lack { IfErr result
         (Lacks (option_map (λ o. o.now) orig.entry) (cancel_reject_says msg.now)) }
 {
-    let content = reject_content(alloc, msg, orig)?;
-    let split = split(alloc, &content)?;
+    let mut content = Vec::new(alloc);
+    write_cancel_reject(msg, &mut content)?;
+    let down = content_down(alloc, b"9", &content, orig)?;
+    let split = split(alloc, &down)?;
     match read_cancel_reject(alloc, &split) {
         Ok(reject) => Ok(CancelReject42 {
             resend: msg.resend,

@@ -1,22 +1,33 @@
 use Rattle.std.proofs.Common.{option_map}
 use Rattle.std.proofs.lemmas.Result.{err_from_is_err_and}
-use Rattle.exec_translate.proofs.Shell.{reject_down, reject_lacks, reject_stands}
+use Rattle.report_rules.specs.Down.{Rejects50}
+use Rattle.report_rules.proofs.GoDown.{goes_down}
+use Rattle.exec_translate.proofs.Shell.{reject_content, reject_goes, reject_lacks}
 use Rattle.exec_translate.proofs.downward.down_cancel_reject.Goals as goal
 
-pub returns-in_err-content-clause-lack : goal.returns-in_err-content-clause-lack
-returns-in_err-content-clause-lack c =
-    let p = err_from_is_err_and c.from_residual.result c.from_residual.ensures.1 in
+pub content_down-requires : goal.content_down-requires
+content_down-requires c =
+    (reject_content c.args.msg.now c.requires.sound c.new-content.ensures.items
+    c.in_ok-write_cancel_reject.ensures.ok c.deref.ensures.value).0
+
+pub returns-in_err-down-clause-lack : goal.returns-in_err-down-clause-lack
+returns-in_err-down-clause-lack c =
+    let p = err_from_is_err_and c.from_residual-in_err-down.result
+    c.from_residual-in_err-down.ensures.1 in
+    let content = reject_content c.args.msg.now c.requires.sound c.new-content.ensures.items
+    c.in_ok-write_cancel_reject.ensures.ok c.deref.ensures.value in
     rw (p.1, p.2) (reject_lacks c.args.msg.now (option_map (λ o. o.now) c.args.orig)
-    c.in_err-content.field-0.0 c.in_err-content.ensures.lack)
+    c.in_err-down.field-0.0 (c.in_err-down.ensures.lack _ content.1))
 
 pub returns-in-Ok-clause-rules : goal.returns-in-Ok-clause-rules
 returns-in-Ok-clause-rules c =
-    reject_down c.args.msg.now (option_map (λ o. o.now) c.args.orig) c.requires.sound
-    c.requires.orig c.in_ok-content.ensures.ok c.deref.ensures.value c.in_ok-split.ensures
-    c.in-Ok.reject c.in-Ok.ensures.says
+    let content = reject_content c.args.msg.now c.requires.sound c.new-content.ensures.items
+    c.in_ok-write_cancel_reject.ensures.ok c.deref.ensures.value in
+    reject_goes c.args.msg.now (option_map (λ o. o.now) c.args.orig) c.requires.sound
+    c.requires.orig (c.in_ok-down.ensures.ok _ content.1) c.deref-2.ensures.value
+    c.in_ok-split.ensures c.in-Ok.reject c.in-Ok.ensures.says
 
 pub returns-in-Ok-clause-stands : goal.returns-in-Ok-clause-stands
 returns-in-Ok-clause-stands c =
-    reject_stands c.args.msg.now (option_map (λ o. o.now) c.args.orig) c.requires.sound
-    c.requires.orig c.in_ok-content.ensures.ok c.deref.ensures.value c.in_ok-split.ensures
-    c.in-Ok.reject c.in-Ok.ensures.says
+    goes_down (option_map (λ o. o.now) c.args.orig) c.requires.orig _ _ (Rejects50 c.requires.sound)
+    (returns-in-Ok-clause-rules c)
