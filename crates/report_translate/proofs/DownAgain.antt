@@ -62,7 +62,7 @@ module _ (letter : ℕ) (items : List (Item Kind)) (msg_type : List ℕ) (fields
   header_said : IsHead t values r
   header_said = search (own_said, optional_said) parts 20
 
-  message_again : items_behind t values r ≡ true → table_fits t (front t values r) ≡ true
+  pub message_again : items_behind t values r ≡ true → table_fits t (front t values r) ≡ true
       → IsSound judge t r → unwrap_or (option_map flag_of (value_at 97 fields)) false ≡ r.resend
       → told (message_of judge t (((35, msg_type) ∷ carried fields) ++ content t r)) ≡ Ok r
   message_again behind fit sound flag =

@@ -42,7 +42,7 @@ use Rattle.request_translate.specs.Up.{IsSound42}
 use Rattle.request_translate.proofs.AgainFields.{request_few}
 
 -- few fields are split again
-few_again : (fields : List Field) → AreFew fields → SplitsInto (body_of fields) fields None
+pub few_again : (fields : List Field) → AreFew fields → SplitsInto (body_of fields) fields None
 few_again fields few = plain_again fields (all_of fields few.plain) (omega (arith, few.few))
 
 few42 : (t : Table Kind) (m : Message) → list_all has_good_tags t.items ≡ true
@@ -82,7 +82,7 @@ lack_again (messages.New m) = refl
 lack_again other = refl
 
 -- a body that is these fields is split into them
-split_is : (body : List ℕ) (written fields : List Field) (fault : Option SplitFault)
+pub split_is : (body : List ℕ) (written fields : List Field) (fault : Option SplitFault)
     → body ≡ body_of written → SplitsInto (body_of written) written None
     → SplitsInto body fields fault → (fields ≡ written) × (fault ≡ None)
 split_is body written fields fault is again split =

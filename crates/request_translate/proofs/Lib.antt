@@ -1,5 +1,5 @@
 pub mod AgainFields
-mod AsStructs
+pub mod AsStructs
 mod GoodFields
 mod OneContent
 mod PlainOrders

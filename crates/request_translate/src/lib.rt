@@ -11,4 +11,4 @@ mod upward;
 
 pub use translate::Translator;
 pub use translation::{MAX_CONTENT, TranslateError};
-pub use upward::up;
+pub use upward::{set_resend, up};

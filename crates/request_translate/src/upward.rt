@@ -32,8 +32,8 @@ fn resend(msg: &Msg42) -> bool
     }
 }
 
-/// Sets PossResend(97) of a request.
-fn set_resend(msg: &mut Msg50, resend: bool)
+/// Sets PossResend(97) of a request, which its content does not have.
+pub fn set_resend(msg: &mut Msg50, resend: bool)
     requires { IsReadable50 msg.old }
     ensures says { says50 msg.new ≡ record (says50 msg.old) { resend = resend } }
     ensures readable { IsReadable50 msg.new }

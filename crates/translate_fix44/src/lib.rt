@@ -9,4 +9,4 @@ mod rules;
 mod translate;
 mod writing;
 
-pub use translate::{Translator44, Way, check_refusal};
+pub use translate::{Translator44, Way, check_refusal, put_report, put_request};

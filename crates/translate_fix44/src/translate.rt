@@ -34,8 +34,13 @@ pub enum Way {
 }
 
 /// Appends the content of FIX 5.0 SP2 of the request that stands for the fields of a body.
+///
+/// # Errors
+///
+/// As [`Translator44::translate`] has them, but for the length. A part may stand behind what stood
+/// in `out`.
 #[tactic(auto, using(crate::proofs::Put::of_source))]
-fn put_request(
+pub fn put_request(
     alloc: Global,
     tables: &RequestTables,
     split: &Split<'_>,
@@ -74,8 +79,12 @@ fn check_request(
 }
 
 /// Appends the content of FIX 4.4 of the report that stands for the fields of a body.
+///
+/// # Errors
+///
+/// As [`put_request`] has them.
 #[tactic(auto, using(crate::proofs::Put::of_report))]
-fn put_report(
+pub fn put_report(
     alloc: Global,
     tables: &ReportTables,
     split: &Split<'_>,

@@ -1,0 +1,7 @@
+//! Requests of FIX 4.4 as requests of FIX 5.0 SP2, and reports of FIX 5.0 SP2 as reports of FIX
+//! 4.4, for a caller that wants structs: each is written, goes by the rules, and is read again.
+#![tactic(auto)]
+
+mod upward;
+
+pub use upward::up44;
