@@ -165,7 +165,7 @@ module _ (msg : Report50) (c : IsComplete report_table (report_says msg)) where
         items = i.0 & i.1.0 & i.1.1.0 & i.1.1.1.0 & i.1.1.1.1.1.1.1.1;
       }
 
-  few : AreFew after
+  pub few : AreFew after
   unfolding is_data_tag times
   few = few_of judge few_table few_message refl (lit≤ tt) few_sound
 

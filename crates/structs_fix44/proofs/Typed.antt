@@ -52,21 +52,21 @@ use Rattle.translate_fix44.proofs.Go.{go_up}
 -- ---- a content behind its MsgType
 
 -- MsgType alone as a header
-abbrev typed : ℕ → List Field
+abbrev pub typed : ℕ → List Field
 typed letter = (35, letter ∷ []) ∷ []
 
-record IsTyped (letter : ℕ) : Type 0 where
-  own : IsOwnHead (letter ∷ []) (typed letter)
-  type : IsType (letter ∷ [])
-  clear : (IsClearField judge) (35, letter ∷ [])
+pub record IsTyped (letter : ℕ) : Type 0 where
+  pub own : IsOwnHead (letter ∷ []) (typed letter)
+  pub type : IsType (letter ∷ [])
+  pub clear : (IsClearField judge) (35, letter ∷ [])
 
 -- fields that are split again, and read as a message in a direction
-record IsRead (d : Direction) (fields : List Field) (m : Message) : Type 0 where
-  again : SplitsInto (body_of fields) fields None
-  reads : d.source (type_of fields) fields None ≡ Ok m
+pub record IsRead (d : Direction) (fields : List Field) (m : Message) : Type 0 where
+  pub again : SplitsInto (body_of fields) fields None
+  pub reads : d.source (type_of fields) fields None ≡ Ok m
 
 module _ (letter : ℕ) (is : IsTyped letter) (written : List Field) (few : AreFew written) where
-  behind_type : SplitsInto (body_of (typed letter ++ written)) (typed letter ++ written) None
+  pub behind_type : SplitsInto (body_of (typed letter ++ written)) (typed letter ++ written) None
   behind_type = clear_again (typed letter) written (is.clear, tt) is.type few
 
 module _ (letter : ℕ) (items : List (Item Kind)) (r : Message) (is : IsTyped letter) where
@@ -98,12 +98,12 @@ module _ {d : Direction} {own : List Field} {m : Message} (is : IsRead d own m) 
       ∙ is.reads in cc
 
   -- what is appended, and what becomes of the message
-  record Puts (before after : List ℕ) : Type 0 where
-    w : Message
-    goes : d.goes m ≡ Ok w
-    put : after ≡ before ++ body_of (d.content m w)
+  pub record Puts (before after : List ℕ) : Type 0 where
+    pub w : Message
+    pub goes : d.goes m ≡ Ok w
+    pub put : after ≡ before ++ body_of (d.content m w)
 
-  puts : (before after : List ℕ) → Appends d fields stopped before after → Puts before after
+  pub puts : (before after : List ℕ) → Appends d fields stopped before after → Puts before after
   puts before after h =
       let is = message_is h.gone.m h.gone.read in record {
         w = h.gone.w;
@@ -112,7 +112,7 @@ module _ {d : Direction} {own : List Field} {m : Message} (is : IsRead d own m) 
       }
 
   -- or the tag that it lacks
-  lacks : (tag : ℕ) → StayBack d fields stopped (errors.Lacking tag) → d.goes m ≡ Err tag
+  pub lacks : (tag : ℕ) → StayBack d fields stopped (errors.Lacking tag) → d.goes m ≡ Err tag
   lacks tag h = ap d.goes (sym (message_is h.0 h.1)) ∙ h.2
 
 -- ---- a request
@@ -185,7 +185,7 @@ asked (messages.Cancel m) c = Cancels c
 asked (messages.Replace m) c = Replaces c
 asked (messages.Status m) c = Statuses c
 
-same_lack : (lack : Option ℕ) (x y : Message) (tag : ℕ) → or_lack lack x ≡ Err tag
+pub same_lack : (lack : Option ℕ) (x y : Message) (tag : ℕ) → or_lack lack x ≡ Err tag
     → or_lack lack y ≡ Err tag
 same_lack None x y tag h = absurd cc
 same_lack (Some other) x y tag h = h

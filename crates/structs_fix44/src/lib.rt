@@ -2,6 +2,8 @@
 //! 4.4, for a caller that wants structs: each is written, goes by the rules, and is read again.
 #![tactic(auto)]
 
+mod downward;
 mod upward;
 
+pub use downward::down_report44;
 pub use upward::up44;
