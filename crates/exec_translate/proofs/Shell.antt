@@ -176,8 +176,11 @@ module _ (msg : Report50) (c : IsComplete report_table (report_says msg)) where
   report_content = content_says (codes "8") report_table b refl refl bare_sound few
       (content_again report_table b refl refl bare_sound c.month)
 
+  pub bare_complete : IsComplete report_table b
+  bare_complete = record { sound = bare_sound; month = c.month }
+
   pub bare_report : IsReport50 b
-  bare_report = Reports50 (record { sound = bare_sound; month = c.month })
+  bare_report = Reports50 bare_complete
 
 module _ (msg : CancelReject50) (c : IsComplete cancel_reject_table (cancel_reject_says msg)) where
   abbrev q : Message

@@ -129,8 +129,8 @@ fn is_too_long(log: &Log) -> bool
 /// `Refused` exactly where the bytes are refused as a journal of format 1, at that place, and
 /// `Full` exactly where the image would be longer than 1,073,741,824 bytes; then nothing was put.
 /// `DiskFault` and `OutputFault` only where the count of faults of the disk or of the sink rose in
-/// this call; `NoMemory`. What was put is then nothing or a front of the image. Of a disk that tells
-/// nothing, as a file, the image is that of what was read.
+/// this call; `NoMemory`. What was put is then nothing or a front of the image. Of a disk that
+/// tells nothing, as a file, the image is that of what was read.
 pub fn migrate_journal<D: Disk, O: Sink>(
     alloc: Global,
     disk: &mut D,

@@ -1,5 +1,6 @@
 -- What is read of fields at no fault is their message, row by row.
-use Rattle.std.proofs.Common.{◌≡◌, ℕ, Option, List, [], ◌∷◌, Bool, true, false, Some, None, refl, lit<}
+use Rattle.std.proofs.Common.{◌≡◌, ℕ, Option, List, [], ◌∷◌, Bool, true, false, Some, None, refl}
+use Rattle.std.proofs.Common.{lit<}
 use Rattle.std.specs.Prelude.{IsSome, if◌then◌else◌}
 use Rattle.field_groups.specs.Field.{Field}
 use Rattle.message_tables.specs.Tables.{Place, Said, Table, Tag, first_of, is_place}

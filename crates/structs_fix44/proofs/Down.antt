@@ -17,7 +17,6 @@ use Rattle.rows_fix50.specs.Header.{completed_by, table as table50}
 use Rattle.party_translate.specs.Parties.{parties_of, three_of}
 use Rattle.reports_fix44.specs.Message.{report_by, report_table as report_table44}
 use Rattle.reports_fix44.specs.Said as said44
-use Rattle.reports_fix44.specs.declared.reports.Report44.{Report44}
 use Rattle.reports_fix50.specs.Message.{message50, report_table}
 use Rattle.reports_fix50.specs.Reports.{execution_report}
 use Rattle.reports_fix50.specs.Said.{report_says}
@@ -40,7 +39,7 @@ use Rattle.translation.proofs.BehindHeader.{IsHead, front, items_behind, read_be
 use Rattle.translation.proofs.CarriedHeader.{head_value, own_said}
 use Rattle.report_translate.specs.Reading.{report_message}
 use Rattle.exec_translate.specs.Down.{bare}
-use Rattle.exec_translate.proofs.Shell.{few, report_ready}
+use Rattle.exec_translate.proofs.Shell.{bare_complete, few}
 use Rattle.request_translate.proofs.AsStructs.{few_again, split_is}
 use Rattle.translate_fix44.specs.Laws.{StandsDown}
 use Rattle.translate_fix44.specs.Rules.{Same, down_content, down_message, down_rules, kinds}
@@ -110,7 +109,7 @@ module _ (msg : Report50) (c : IsComplete report_table (report_says msg)) where
       unfolding own report_message message50
       is_read = record {
         again = behind_type 56 typed_8 (content report_table b) (few msg c);
-        reads = reads_typed 56 execution_report b typed_8 refl refl (report_ready msg c).complete
+        reads = reads_typed 56 execution_report b typed_8 refl refl (bare_complete msg c)
             refl;
       }
 
@@ -146,7 +145,7 @@ module _ (msg : Report50) (c : IsComplete report_table (report_says msg)) where
     groups = (453, map party_cells (parties_of (three_of msg.parties))) ∷ drop 1 x.groups;
   }
 
-  by_parties : (w : Message) (r : Report44) → down_message None b ≡ Ok w
+  by_parties : (w : Message) (r : Report50) → down_message None b ≡ Ok w
       → said44.report_says r ≡ without_resend w
       → down_message None (report_says msg) ≡ Ok (said44.report_says (with_parties msg r))
   unfolding first_of
@@ -163,11 +162,11 @@ module _ (msg : Report50) (c : IsComplete report_table (report_says msg)) where
 
   module _ {text body : List ℕ} {fields : List Field} {stopped : Option SplitFault}
       (there : IsDown b text) (copied : body ≡ text) (split : SplitsInto body fields stopped)
-      (r : Report44) (read : report_by report_table44 fields stopped ≡ Ok (said44.report_says r))
-      (x : Report44) (is : x ≡ with_parties msg r) where
+      (r : Report50) (read : report_by report_table44 fields stopped ≡ Ok (said44.report_says r))
+      (x : Report50) (is : x ≡ with_parties msg r) where
     says_it : said44.report_says r ≡ without_resend there.w
     says_it =
-        let d = report_goes_down None b there.w (report_ready msg c).complete there.goes in
+        let d = report_goes_down None b there.w (bare_complete msg c) there.goes in
         let few = subst (λ (fs : List Field). AreFew fs) (sym d.gone.is) d.few in
         let same = split_is body (down_content None b) fields stopped (copied ∙ there.bytes)
         (few_again (down_content None b) few) split in
@@ -176,7 +175,7 @@ module _ (msg : Report50) (c : IsComplete report_table (report_says msg)) where
 
     pub report_down : down_message None (report_says msg) ≡ Ok (said44.report_says x)
     report_down = by_parties there.w r there.goes says_it
-        ∙ ap (λ (y : Report44). Ok (said44.report_says y)) (sym is)
+        ∙ ap (λ (y : Report50). Ok (said44.report_says y)) (sym is)
 
     pub report_stands : StandsDown None (report_says msg) (said44.report_says x)
     report_stands = go_down None tt (report_says msg) (said44.report_says x) (Reports50 c)

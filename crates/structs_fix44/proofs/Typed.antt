@@ -1,7 +1,7 @@
 -- A request or report as a struct: its content is split and read again behind its MsgType, and what
 -- is known of these fields is so of what the struct says.
-use Rattle.std.proofs.Common.{◌≡◌, ◌≤◌, ◌++◌, ◌∙◌, ℕ, List, [], ◌∷◌, Bool, false, true, Option, None, Ok}
-use Rattle.std.proofs.Common.{Err, Some, refl, sym, ap, subst, arith}
+use Rattle.std.proofs.Common.{◌≡◌, ◌≤◌, ◌++◌, ◌∙◌, ℕ, List, [], ◌∷◌, Bool, false, true, Option, None}
+use Rattle.std.proofs.Common.{Ok, Err, Some, refl, sym, ap, subst, arith}
 use Rattle.field_groups.specs.Data.{is_data_tag}
 use Rattle.field_groups.specs.declared.fault.SplitFault.{SplitFault}
 use Rattle.field_groups.specs.Field.{Field, body_of, field_bytes}

@@ -13,8 +13,8 @@ returns-in_default-clause-gives c = λ entry is written.
 
 pub returns-in_default-front_of-clause-gives : goal.returns-in_default-front_of-clause-gives
 returns-in_default-front_of-clause-gives c = λ entry is written.
-    absurd (c.in_default-front_of.ensures entry is (behind_day c.args.payload.now c.in-Some.bytes.now
-    _ entry written c.in-Some.ensures.0))
+    absurd (c.in_default-front_of.ensures entry is (behind_day c.args.payload.now
+    c.in-Some.bytes.now _ entry written c.in-Some.ensures.0))
 
 pub returns-in_default-out_in-clause-gives : goal.returns-in_default-out_in-clause-gives
 returns-in_default-out_in-clause-gives c = λ entry is written.

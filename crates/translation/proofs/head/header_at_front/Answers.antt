@@ -40,7 +40,8 @@ returns-then-time-le-MILLIS-clause-down c =
     c.if-time-eq52.true in
     let none = c.in-None-None-None in
     front_is (t 0) (t 1) (t 2) (t 3) (t 4) c.args.body.now c.requires.0 c.args.fields.now
-    (seen (drop 5 parts)) is c.requires.1 c.five_fields.result.now (header (head_down c.args.fields.now))
+    (seen (drop 5 parts)) is c.requires.1 c.five_fields.result.now
+    (header (head_down c.args.fields.now))
     c.five_fields.ensures (five_down (t 0) (t 1) (t 2) (t 3) (t 4) c.args.fields.now
     (seen (drop 5 parts)) is c.if-time-le-MILLIS.true (none_of _ _ none.is-0 c.value.ensures)
     (none_of _ _ none.is-1 c.value-2.ensures) (none_of _ _ none.is-2 c.value-3.ensures))
