@@ -6,7 +6,7 @@ ghost use Rattle.row_values.specs.CodeKinds.{kind_of};
 ghost use Rattle.reports_fix44.specs.Message.{cancel_reject_table, report_table};
 
 use message_tables::Need::{Optional, Required, When};
-use message_tables::{Item, Need, RepeatingGroup, Row, Table, Test};
+use message_tables::{Item, Need, RepeatingGroup, Table, Test, one, table};
 use row_values::Kind::{MonthBeside, TimeBeside, Value};
 use row_values::{CONTRA_ROWS, Kind, PARTIES};
 use rows_fix42::HEADER;
@@ -30,17 +30,6 @@ const CONTRA_BROKERS: RepeatingGroup<Kind> = RepeatingGroup {
     rows: &CONTRA_ROWS,
     skipped: &[655],
 };
-
-/// A row: the tag of its field, the kind of its values, and whether each message says it.
-macro_rules! one {
-    ($tag:literal, $kind:expr, $need:expr) => {
-        Item::One(Row {
-            tag: $tag,
-            kind: $kind,
-            need: $need,
-        })
-    };
-}
 
 /// Execution Report (8), in the order of writing.
 #[rattlefmt::skip]
@@ -110,20 +99,10 @@ const CANCEL_REJECT: [Item<Kind>; 10] = [
 ];
 
 /// The table of Execution Report.
-static EXECUTION_REPORT_TABLE: Table<Kind> = Table {
-    letter: b'8',
-    header: &HEADER,
-    items: &EXECUTION_REPORT,
-    strict: true,
-};
+static EXECUTION_REPORT_TABLE: Table<Kind> = table!(b'8', HEADER, EXECUTION_REPORT, true);
 
 /// The table of Order Cancel Reject.
-static CANCEL_REJECT_TABLE: Table<Kind> = Table {
-    letter: b'9',
-    header: &HEADER,
-    items: &CANCEL_REJECT,
-    strict: true,
-};
+static CANCEL_REJECT_TABLE: Table<Kind> = table!(b'9', HEADER, CANCEL_REJECT, true);
 
 /// The table of Execution Report(8).
 pub(crate) fn execution_report() -> &'static Table<Kind>
