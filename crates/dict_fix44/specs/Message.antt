@@ -10,21 +10,17 @@ use Rattle.message_tables.specs.Tables.{Item, Table, Message}
 use Rattle.order_meaning.specs.declared.fault.Fault.{Fault}
 use Rattle.first_faults.specs.Faults.{message_by}
 use Rattle.refusal_parts.specs.Once.{once_by}
+use Rattle.row_values.specs.Asked.{of_type}
 use Rattle.row_values.specs.Kinds.{Kind}
 use Rattle.rows_fix42.specs.Header.{table}
 use Rattle.rows_fix50.specs.Header.{completed_by}
-use Rattle.dict_fix44.specs.Requests.{new_order, cancel_request, replace_request, status_request}
+use Rattle.dict_fix44.specs.Requests.{asked44}
 use Rattle.dict_fix44.specs.Reports.{execution_report, cancel_reject, session_reject}
 use Rattle.dict_fix44.specs.Reports.{business_reject}
 
--- The table of a request, and that of a report, by its MsgType. The fields of the header that count
--- are those of FIX 4.2.
+-- the table of a request, and that of a report, by its MsgType
 abbrev pub request_table_of : List ℕ → Option (Table Kind)
-request_table_of msg_type =
-    if bytes_eq msg_type (codes "D") then Some (table 68 new_order) else
-    (if bytes_eq msg_type (codes "F") then Some (table 70 cancel_request) else
-    (if bytes_eq msg_type (codes "G") then Some (table 71 replace_request) else
-    (if bytes_eq msg_type (codes "H") then Some (table 72 status_request) else None)))
+request_table_of msg_type = of_type msg_type asked44
 
 abbrev pub report_table_of : List ℕ → Option (Table Kind)
 report_table_of msg_type =

@@ -2,13 +2,16 @@
 -- Cancel/Replace Request (G) and Order Status Request (H). Own: which of their fields and values
 -- count, and the order of writing.
 use Rattle.std.specs.Prelude.{ℕ, List, [], ◌∷◌, codes}
-use Rattle.message_tables.specs.Tables.{Optional, Item}
+use Rattle.message_tables.specs.Tables.{Optional, Item, Table}
+use Rattle.order_meaning.specs.Request.{RequestKind, New, Cancel, Replace, Status}
 use Rattle.value_kinds.specs.ValueKind.{Flag, Id, OneByte, Code, Codes, Word, Text, Currency, Qty}
 use Rattle.value_kinds.specs.ValueKind.{Price, Stamp, Day}
+use Rattle.row_values.specs.Asked.{letter_of}
 use Rattle.row_values.specs.Kinds.{Kind, MonthBeside}
 use Rattle.row_values.specs.Groups.{parties, allocs, sessions}
 use Rattle.row_values.specs.Columns.{Column, R, O, N, Line, line, field, value, party, lines}
 use Rattle.row_values.specs.Columns.{of_d, of_f, of_g, of_h}
+use Rattle.rows_fix42.specs.Header.{table}
 
 abbrev special : ℕ → Kind → Column → Column → Column → Column → Line
 special tag kind = line (field Optional tag kind)
@@ -70,3 +73,14 @@ replace_request = of_g requests
 
 abbrev pub status_request : List (Item Kind)
 status_request = of_h requests
+
+-- and of what is asked for
+abbrev pub items44 : RequestKind → List (Item Kind)
+items44 New = new_order
+items44 Cancel = cancel_request
+items44 Replace = replace_request
+items44 Status = status_request
+
+-- THE TABLE of what is asked for. The fields of the header that count are those of FIX 4.2.
+abbrev pub asked44 : RequestKind → Table Kind
+asked44 kind = table (letter_of kind) (items44 kind)

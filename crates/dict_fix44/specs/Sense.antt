@@ -2,17 +2,17 @@
 -- Cancel/Replace Request (G), Order Status Request (H), Execution Report (8), Order Cancel Reject
 -- (9), and volume 6: what their fields mean.
 -- Own: an order that does not say HandlInst is one for automated execution without a broker.
-use Rattle.std.specs.Prelude.{ℕ, List, map, Option, Some, None, ◌==◌, unwrap_or, if◌then◌else◌}
-use Rattle.std.specs.Option.{option_map}
+use Rattle.std.specs.Prelude.{ℕ, List, Option, Some, None, ◌==◌, unwrap_or, if◌then◌else◌}
 use Rattle.std.specs.Result.{result_ok}
 use Rattle.field_groups.specs.Field.{Field}
-use Rattle.message_tables.specs.Tables.{Tag, Role, Said, Cell, Message, ◌>>=◌, said_at, lines_of}
-use Rattle.message_tables.specs.Tables.{text_in, code_in, code_if, flag_of}
+use Rattle.message_tables.specs.Tables.{Tag, Role, Said, Cell, Message, ◌>>=◌, said_at, text_in}
+use Rattle.message_tables.specs.Tables.{code_in, code_if}
 use Rattle.order_meaning.specs.Request.{RequestKind, New, Cancel, Replace, Status, Request}
 use Rattle.order_meaning.specs.Report.{Exec, Trade, Correct, Bust, Status as OrderStatus, Other}
 use Rattle.order_meaning.specs.Report.{ExecutionReport, CancelReject, Report, Executed}
 use Rattle.order_meaning.specs.Report.{NotCanceled}
-use Rattle.row_values.specs.Amounts.{alloc_of, session_of, amount_if, number_if}
+use Rattle.row_values.specs.Amounts.{amount_if, number_if}
+use Rattle.row_values.specs.Asked.{of_letter, request_by}
 use Rattle.row_values.specs.Executions.{execution_by}
 unfoldable pub use Rattle.row_values.specs.Phases.{phase_of}
 use Rattle.rows_fix50.specs.Meaning.{terms_of, maturity_of}
@@ -30,56 +30,21 @@ hand_inst_of Status said = None
 
 -- what a message asks for; at the close (7) a market or limit order is one of another type
 abbrev pub request_of : RequestKind → Message → Request
-request_of kind m = record {
-  kind = kind;
-  resend = m.resend;
-  cl_ord_id = text_in m.cells 11;
-  orig_id = said_at m.cells (Tag 41);
-  order_id = said_at m.cells (Tag 37);
+request_of kind m = request_by kind m (record {
   client_id = said_at m.cells (Role 3);
   exec_broker = said_at m.cells (Role 1);
   clearing_firm = said_at m.cells (Role 4);
-  account = said_at m.cells (Tag 1);
-  allocs = map alloc_of (lines_of 78 m.groups);
-  settl_type = code_if m.cells 63;
-  settl_date = said_at m.cells (Tag 64);
   hand_inst = hand_inst_of kind (code_if m.cells 21);
-  exec_inst = said_at m.cells (Tag 18);
-  min_qty = amount_if m.cells 110;
   max_floor = amount_if m.cells 111;
-  ex_destination = said_at m.cells (Tag 100);
-  sessions = map session_of (lines_of 386 m.groups);
-  symbol = text_in m.cells 55;
-  symbol_sfx = said_at m.cells (Tag 65);
-  security_id = said_at m.cells (Tag 48);
-  id_source = code_if m.cells 22;
-  security_type = said_at m.cells (Tag 167);
   maturity = maturity_of (said_at m.cells (Tag 200)) (said_at m.cells (Tag 541));
-  security_exchange = said_at m.cells (Tag 207);
-  side = code_in m.cells 54;
-  locate = option_map flag_of (said_at m.cells (Tag 114));
-  transact_time = said_at m.cells (Tag 60);
-  order_qty = amount_if m.cells 38;
   ord_type = (terms_of (code_if m.cells 40) (code_if m.cells 59)).0;
-  price = amount_if m.cells 44;
-  stop_px = amount_if m.cells 99;
-  currency = said_at m.cells (Tag 15);
   time_in_force = (terms_of (code_if m.cells 40) (code_if m.cells 59)).1;
-  effective_time = said_at m.cells (Tag 168);
-  expire_date = said_at m.cells (Tag 432);
-  expire_time = said_at m.cells (Tag 126);
   capacity = code_if m.cells 528;
-  open_close = code_if m.cells 77;
-  text = said_at m.cells (Tag 58);
-}
+})
 
 -- the request of a message, by its letter
 abbrev pub request44 : Message → Option Request
-request44 m =
-    if m.letter == 68 then Some (request_of New m) else
-    (if m.letter == 70 then Some (request_of Cancel m) else
-    (if m.letter == 71 then Some (request_of Replace m) else
-    (if m.letter == 72 then Some (request_of Status m) else None)))
+request44 m = of_letter m.letter (λ kind. request_of kind m)
 
 -- ---- reports
 

@@ -16,6 +16,7 @@ use Rattle.rows_fix42.specs.Header.{table as table44}
 use Rattle.rows_fix50.specs.Header.{completed_by}
 use Rattle.dict_fix44.specs.Message.{request_message44}
 use Rattle.dict_fix44.specs.Requests.{new_order}
+use Rattle.order_meaning.specs.Request.{New, Cancel, Replace, Status}
 use Rattle.dict_fix50.specs.Message.{message50}
 use Rattle.dict_fix50.specs.Said.{says as says50}
 use Rattle.dict_fix50.specs.declared.requests.Msg50.{Msg50}
@@ -43,7 +44,7 @@ use Rattle.translation.proofs.SplitAgain.{clear_again}
 use Rattle.request_translate.proofs.AgainFields.{request_few}
 use Rattle.request_translate.proofs.AsStructs.{few_again, split_is}
 use Rattle.report_translate.proofs.DownAgain.{message_again}
-use Rattle.translate_fix44.specs.Laws.{Cancels, IsRequest44, News, Replaces, StandsUp, Statuses}
+use Rattle.translate_fix44.specs.Laws.{IsRequest44, StandsUp}
 use Rattle.translate_fix44.specs.Rules.{kinds, up_content, up_lack, up_message, up_rules}
 use Rattle.structs_fix44.specs.Up.{IsSound44, IsUp}
 use Rattle.translate_fix44.specs.Translation.{up}
@@ -180,10 +181,10 @@ reads44 msg c =
     refl
 
 asked : (msg : Msg44) → IsSound44 msg → IsRequest44 (says msg)
-asked (messages.New m) c = News c
-asked (messages.Cancel m) c = Cancels c
-asked (messages.Replace m) c = Replaces c
-asked (messages.Status m) c = Statuses c
+asked (messages.New m) c = record { kind = New; complete = c }
+asked (messages.Cancel m) c = record { kind = Cancel; complete = c }
+asked (messages.Replace m) c = record { kind = Replace; complete = c }
+asked (messages.Status m) c = record { kind = Status; complete = c }
 
 pub same_lack : (lack : Option ℕ) (x y : Message) (tag : ℕ) → or_lack lack x ≡ Err tag
     → or_lack lack y ≡ Err tag

@@ -13,6 +13,7 @@ use Rattle.rows_fix50.specs.Header.{completed_by}
 use Rattle.dict_fix50.specs.Message.{message50}
 use Rattle.dict_fix44.specs.Message.{report_message44}
 use Rattle.dict_fix44.specs.Reports as reports44
+use Rattle.dict_fix44.specs.Requests.{asked44, items44}
 use Rattle.reports_fix50.specs.Message.{cancel_reject_table, report_table}
 use Rattle.reports_fix50.specs.Sense.{report50}
 use Rattle.sound_laws.proofs.PlainFields.{clear_fields, AreFew}
@@ -38,7 +39,6 @@ use Rattle.report_translate.specs.Reading.{report_message}
 use Rattle.report_translate.proofs.DownAgain.{Eight, IsEither, IsOf, Nine, clear, down_type, either}
 use Rattle.report_translate.proofs.DownAgain.{reject_header, report_header, unfilled, behind_head}
 use Rattle.report_translate.proofs.OfType.{type_is}
-use Rattle.translate_fix44.specs.Put.{asked44, items_of}
 use Rattle.translate_fix44.specs.Rules.{kinds, up_content, up_lack, up_rules, down_content}
 use Rattle.translate_fix44.specs.Rules.{down_message, rules_for}
 use Rattle.translate_fix44.specs.Translation.{up, down, direction}
@@ -73,7 +73,7 @@ up_fair fields are m w read goes =
     let own = stands.request in
     let letter = ap (λ (x : Message). x.letter) same ∙ own.canonical.sound.letter in
     let head = head_is_own (asked44 a.kind) fields r.0 (clear_fields judge None fields are)
-    (type_of fields) type (has_header (letter_of a.kind) (items_of a.kind)) in
+    (type_of fields) type (has_header (letter_of a.kind) (items44 a.kind)) in
     let test = tests (head_value (type_of fields) fields) w own.kind in
     record {
       kept = record {

@@ -23,6 +23,7 @@ use Rattle.dict_fix50.specs.Message.{message50}
 use Rattle.dict_fix50.specs.Sense as sense50
 use Rattle.dict_fix44.specs.Message.{message44_by, request_message44, report_message44}
 use Rattle.dict_fix44.specs.Reports as reports44
+use Rattle.dict_fix44.specs.Requests.{asked44, items44}
 use Rattle.dict_fix44.specs.Sense as sense44
 use Rattle.dict_fix44.specs.Step.{step44}
 use Rattle.dict_fix44.proofs.Steps.{steps_meant}
@@ -53,9 +54,8 @@ use Rattle.request_rules.proofs.PartiesUp.{three_parties}
 use Rattle.report_rules.specs.Down.{IsId, Rejects50, Reports50}
 use Rattle.report_rules.specs.Rules.{at}
 use Rattle.report_rules.proofs.SenseDown.{books_by, fills_nothing, not_lacking}
-use Rattle.translate_fix44.specs.Laws.{IsRequest44, News, Cancels, Replaces, Statuses, GoDown, GoUp}
+use Rattle.translate_fix44.specs.Laws.{IsRequest44, GoDown, GoUp}
 use Rattle.translate_fix44.specs.Laws.{IsReport44, Rejects, ReadGoUp, Reports, StandsDown, StandsUp}
-use Rattle.translate_fix44.specs.Put.{asked44, items_of}
 use Rattle.translate_fix44.specs.Rules.{Else, Rule, Same, down_content, down_message, down_rules}
 use Rattle.translate_fix44.specs.Rules.{kinds, party, rules_for, turned_code, up_content, up_lack}
 use Rattle.translate_fix44.specs.Rules.{up_rules}
@@ -103,13 +103,10 @@ module _ (fields : List Field) (clear : AllByRecursion (IsClearField judge) fiel
       → request_message44 msg_type fields None ≡ Ok x → IsRequest44 x
   read_is_complete msg_type x e =
       let a = is_asked msg_type fields x e in
-      each a.kind (dated_complete fields (asked44 a.kind) clear false (dated a.kind) x a.read)
-    where
-      each : (kind : RequestKind) → IsComplete (asked44 kind) x → IsRequest44 x
-      each New = News
-      each Cancel = Cancels
-      each Replace = Replaces
-      each Status = Statuses
+      record {
+        kind = a.kind;
+        complete = dated_complete fields (asked44 a.kind) clear false (dated a.kind) x a.read;
+      }
 
 -- ---- the fields of an execution report are few, since at most three parties are written
 
@@ -172,7 +169,7 @@ inst_1 : IsElse (Some (codes "1")) (row Optional 21 (Code (codes "123")))
 unfolding judge spelling
 inst_1 = (refl, (refl, refl))
 
-up_goes : (kind : RequestKind) → GoesBy true up_rules (letter_of kind) (items_of kind)
+up_goes : (kind : RequestKind) → GoesBy true up_rules (letter_of kind) (items44 kind)
 up_goes New =
     record { passed = refl; asked = (λ h. refl) & tt & tt & tt & inst_1 & refl & refl & refl & tt }
 up_goes Replace =
@@ -192,17 +189,17 @@ coded fields (Some text) h = rw (is_code_of fields (codes "123") text h).is refl
 
 module _ (kind : RequestKind)
     (is : (f : RequestKind → Request) → of_letter (letter_of kind) f ≡ Some (f kind))
-    (inst : has_place (outline_of (items_of kind)) (Tag 21) ≡ has_inst kind)
-    (inst_row : IsRow (items_of kind) (row Optional 21 (Code (codes "123"))))
+    (inst : has_place (outline_of (items44 kind)) (Tag 21) ≡ has_inst kind)
+    (inst_row : IsRow (items44 kind) (row Optional 21 (Code (codes "123"))))
     (m : Message) (c : IsComplete (asked44 kind) m) (lack : up_lack m ≡ None) where
   abbrev w : Message
   w = by_rules kinds up_rules m
 
   abbrev t : Table Kind
-  t = table_to true up_rules (letter_of kind) (items_of kind)
+  t = table_to true up_rules (letter_of kind) (items44 kind)
 
   gone_up : IsGone t w (up_content m)
-  gone_up = way_gone true up_rules up_way (letter_of kind) (items_of kind) (up_goes kind) m c
+  gone_up = way_gone true up_rules up_way (letter_of kind) (items44 kind) (up_goes kind) m c
       (or_none _ _ lack)
 
   by_letter : (f : RequestKind → Request) → of_letter m.letter f ≡ Some (f kind)
@@ -217,7 +214,7 @@ module _ (kind : RequestKind)
       (request_means m kind (placed ∙ inst) (coded (content (asked44 kind) m) (at m 21) spelled))
       ∙ sym (by_letter (λ k. sense44.request_of k m))
 
-  stands_up : (IsCanonical (letter_of kind) (items_by true (items_of kind) up_rules) w
+  stands_up : (IsCanonical (letter_of kind) (items_by true (items44 kind) up_rules) w
       → up_content m ≡ content t w → IsRequest w (up_content m))
       → message50 (letter_of kind ∷ []) (up_content m) None
       ≡ completed_by (told (message_of judge t (up_content m))) → StandsUp m w
@@ -235,22 +232,23 @@ module _ (kind : RequestKind)
             ∙ gone_up.again;
       }
 
--- WHAT GOES UP STANDS FOR A MESSAGE.
-stands : (m : Message) → IsRequest44 m → up_lack m ≡ None → StandsUp m (by_rules kinds up_rules m)
+stands : (m : Message) (kind : RequestKind) → IsComplete (asked44 kind) m → up_lack m ≡ None
+    → StandsUp m (by_rules kinds up_rules m)
 unfolding message50
-stands m (News c) lack = stands_up New (λ f. refl) refl refl m c lack
+stands m New c lack = stands_up New (λ f. refl) refl refl m c lack
     (λ x is. record { kind = New; canonical = x; is = is }) refl
-stands m (Cancels c) lack = stands_up Cancel (λ f. refl) refl tt m c lack
+stands m Cancel c lack = stands_up Cancel (λ f. refl) refl tt m c lack
     (λ x is. record { kind = Cancel; canonical = x; is = is }) refl
-stands m (Replaces c) lack = stands_up Replace (λ f. refl) refl refl m c lack
+stands m Replace c lack = stands_up Replace (λ f. refl) refl refl m c lack
     (λ x is. record { kind = Replace; canonical = x; is = is }) refl
-stands m (Statuses c) lack = stands_up Status (λ f. refl) refl tt m c lack
+stands m Status c lack = stands_up Status (λ f. refl) refl tt m c lack
     (λ x is. record { kind = Status; canonical = x; is = is }) refl
 
+-- WHAT GOES UP STANDS FOR A MESSAGE.
 pub go_up : GoUp
 go_up m w request up =
     let p = not_lacking (up_lack m) (by_rules kinds up_rules m) w up in
-    rw (← p.1) (stands m request p.0)
+    rw (← p.1) (stands m request.kind request.complete p.0)
 
 pub read_go_up : ReadGoUp
 read_go_up msg_type fields m w are read up =

@@ -49,7 +49,8 @@ use Rattle.translate_fix44.specs.CodeRules.{reading, rule_of, writes, has_role a
 use Rattle.translate_fix44.specs.CodeRules.{lacks_role_in}
 use Rattle.translate_fix44.specs.Rules.{else_said, kinds, lacks_close, party, turned_code, has_role}
 use Rattle.translate_fix44.specs.Rules.{is_role, lacks_role}
-use Rattle.translate_fix44.specs.Put.{IsAsked, asked44}
+use Rattle.dict_fix44.specs.Requests.{asked44}
+use Rattle.translate_fix44.specs.Put.{IsAsked}
 
 -- ---- what the code has read
 

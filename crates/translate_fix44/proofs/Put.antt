@@ -25,6 +25,7 @@ use Rattle.rows_fix50.specs.Header.{completed_by}
 use Rattle.refusal_parts.specs.Once.{once, once_by}
 use Rattle.dict_fix44.specs.Message.{message44_by, request_message44, request_table_of, refusal44}
 use Rattle.dict_fix44.specs.Message.{refusal_table_of}
+use Rattle.dict_fix44.specs.Requests.{asked44}
 use Rattle.reports_fix50.specs.Message.{cancel_reject_table, report_table}
 use Rattle.reports_fix50.specs.Message.{report_table_of}
 use Rattle.rule_rows.specs.ByRules.{by_rules, content_by, lack_by, lack_if, or_lack}
@@ -49,7 +50,7 @@ use Rattle.report_translate.specs.Refusals.{IsFaultyRefusal, IsGoodRefusal}
 use Rattle.report_translate.proofs.GoodFields.{fault_is, good_is, read_8, read_9}
 use Rattle.translate_fix44.specs.declared.rules.Own.{Own as CodeOwn}
 use Rattle.translate_fix44.specs.CodeRules.{Source, code, has_terms, lacks, lacks_role_in, writes}
-use Rattle.translate_fix44.specs.Put.{IsRead, IsReport, Lacks, asked44, message, IsAsked, IsGoodBy}
+use Rattle.translate_fix44.specs.Put.{IsRead, IsReport, Lacks, message, IsAsked, IsGoodBy}
 use Rattle.translate_fix44.specs.Rules.{Rule, kinds, lacks_role, up_lack, up_rules}
 use Rattle.translate_fix44.specs.Translation.{up, down}
 use Rattle.translate_fix44.proofs.Known.{IsKnown, own_goes, IsKnownRequest, known_request}

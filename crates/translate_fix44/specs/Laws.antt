@@ -6,10 +6,11 @@ use Rattle.message_tables.specs.Content.{content}
 use Rattle.message_tables.specs.Tables.{Message, Said}
 use Rattle.order_meaning.specs.Book.{Book}
 use Rattle.order_meaning.specs.Report.{filled}
+use Rattle.order_meaning.specs.Request.{RequestKind}
 use Rattle.rows_fix42.specs.Header.{table}
 use Rattle.dict_fix44.specs.Message.{report_message44, request_message44}
 use Rattle.dict_fix44.specs.Reports.{cancel_reject, execution_report}
-use Rattle.dict_fix44.specs.Requests.{cancel_request, new_order, replace_request, status_request}
+use Rattle.dict_fix44.specs.Requests.{asked44}
 use Rattle.dict_fix44.specs.Sense.{report44, request44}
 use Rattle.dict_fix44.specs.Step.{step44}
 use Rattle.dict_fix50.specs.Message.{message50}
@@ -25,11 +26,9 @@ use Rattle.translate_fix44.specs.Rules.{down_content, down_message, up_content, 
 -- ---- requests
 
 -- a request of FIX 4.4, as it is read
-pub data IsRequest44 (m : Message) : Type 0 where
-  News : IsComplete (table 68 new_order) m → IsRequest44 m
-  Cancels : IsComplete (table 70 cancel_request) m → IsRequest44 m
-  Replaces : IsComplete (table 71 replace_request) m → IsRequest44 m
-  Statuses : IsComplete (table 72 status_request) m → IsRequest44 m
+pub record IsRequest44 (m : Message) : Type 0 where
+  pub kind : RequestKind
+  pub complete : IsComplete (asked44 kind) m
 
 -- WHAT GOES UP STANDS FOR A MESSAGE: it is a canonical request with the content that the rules
 -- write, it means what the message means, and its content is read again as itself, but for

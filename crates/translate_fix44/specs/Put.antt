@@ -2,14 +2,13 @@
 use Rattle.std.specs.Prelude.{◌≡◌, List, [], ◌∷◌, None, codes}
 use Rattle.field_groups.specs.Field.{Field}
 use Rattle.message_tables.specs.FirstFault.{first_fault, message_in}
-use Rattle.message_tables.specs.Tables.{Item, Message, Table, is_one_of}
-use Rattle.order_meaning.specs.Request.{RequestKind, New, Cancel, Replace, Status}
+use Rattle.message_tables.specs.Tables.{Message, Table, is_one_of}
+use Rattle.order_meaning.specs.Request.{RequestKind}
 use Rattle.order_meaning.specs.declared.fault.Lack.{Lack}
 use Rattle.row_values.specs.Groups.{AreParties}
 use Rattle.row_values.specs.Kinds.{Kind, judge}
-use Rattle.rows_fix42.specs.Header.{table}
 use Rattle.rows_fix50.specs.Header.{completed}
-use Rattle.dict_fix44.specs.Requests.{cancel_request, new_order, replace_request, status_request}
+use Rattle.dict_fix44.specs.Requests.{asked44}
 use Rattle.reports_fix50.specs.Message.{report_table_of}
 pub use Rattle.report_rules.specs.Down.{IsGoodBy}
 use Rattle.row_values.specs.Asked.{letter_of}
@@ -19,16 +18,6 @@ use Rattle.translation.specs.Going.{StayBack}
 use Rattle.translation.specs.Header.{type_of}
 use Rattle.rule_rows.specs.CodeRules.{table_of}
 use Rattle.translate_fix44.specs.CodeRules.{Source}
-
--- the items of what is asked for
-abbrev pub items_of : RequestKind → List (Item Kind)
-items_of New = new_order
-items_of Cancel = cancel_request
-items_of Replace = replace_request
-items_of Status = status_request
-
-abbrev pub asked44 : RequestKind → Table Kind
-asked44 kind = table (letter_of kind) (items_of kind)
 
 -- fields at no fault beside the table of their type, which is that of a request
 pub record IsAsked (table : Table Kind) (fields : List Field) : Type 0 where

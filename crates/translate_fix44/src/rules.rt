@@ -6,7 +6,7 @@ ghost use Rattle.reports_fix50.specs.Message.{cancel_reject_table, report_table}
 ghost use Rattle.rule_rows.specs.Rules.{By as Is};
 ghost use Rattle.rule_rows.specs.CodeRules.{AreFor};
 ghost use Rattle.translate_fix44.specs.CodeRules.{code};
-ghost use Rattle.translate_fix44.specs.Put.{asked44};
+ghost use Rattle.dict_fix44.specs.Requests.{asked44};
 ghost use Rattle.translate_fix44.specs.Rules as rules;
 ghost use Rattle.translate_fix44.specs.Rules.{down_rules, up_rules};
 
