@@ -1,7 +1,6 @@
 //! A report of FIX 5.0 SP2 as one of FIX 4.4, for a caller that wants structs.
 
 ghost use Rattle.std.specs.Prelude.{◌≡◌, None, Ok, IfErr, IfOk};
-ghost use Rattle.reports_fix44.specs.Readable as readable44;
 ghost use Rattle.reports_fix44.specs.Said as said44;
 ghost use Rattle.reports_fix50.specs.Message.{report_table};
 ghost use Rattle.reports_fix50.specs.Readable.{IsReadableReport};
@@ -44,9 +43,9 @@ fn report_content(alloc: Global, msg: &Report50) -> Result<Vec<u8>, Lack>
 
 /// A report with the parties of the venue's that have a place, and repeated where that is.
 fn with_parties(alloc: Global, msg: &Report50, report: Report44) -> Result<Report44, AllocError>
-    requires { readable44.IsReadableReport report }
+    requires { IsReadableReport report }
     ensures is { IfOk result (λ written. written ≡ with_parties msg.now report) }
-    ensures readable { IfOk result readable44.IsReadableReport }
+    ensures readable { IfOk result IsReadableReport }
 {
     let three = from_parties(alloc, msg.parties.as_slice())?;
     let parties = to_parties(alloc, &three)?;
@@ -71,7 +70,7 @@ pub fn down_report44(alloc: Global, msg: &Report50) -> Result<Report44, Lack>
         down_message None (report_says msg.now) ≡ Ok (said44.report_says written)) }
     ensures stands { IfOk result (λ written.
         StandsDown None (report_says msg.now) (said44.report_says written)) }
-    ensures readable { IfOk result readable44.IsReadableReport }
+    ensures readable { IfOk result IsReadableReport }
     ensures lack { IfErr result (IsLackOf (down_message None (report_says msg.now))) }
 {
     let content = report_content(alloc, msg)?;
