@@ -1,53 +1,63 @@
--- A report as a struct: its content without its parties goes down by the rules behind its MsgType,
--- and is read again.
+-- A report as a struct: its content, that of an execution report without its parties, goes down by
+-- the rules behind its MsgType, and is read again.
 use Rattle.std.proofs.Common.{◌≡◌, ◌++◌, ◌∙◌, ℕ, List, [], ◌∷◌, false, true, Option, None, Ok, Err}
-use Rattle.std.proofs.Common.{Some, codes, drop, map, refl, sym, ap, subst, take, arith}
+use Rattle.std.proofs.Common.{Some, codes, drop, lit≤, map, refl, sym, ap, subst, take, arith}
+use Rattle.std.specs.Prelude.{IfSome, Result}
+use Rattle.field_groups.specs.Data.{is_data_tag}
 use Rattle.field_groups.specs.declared.fault.SplitFault.{SplitFault}
 use Rattle.field_groups.specs.Field.{Field, body_of, field_bytes}
 use Rattle.field_groups.specs.Fields.{SplitsInto}
 use Rattle.message_tables.specs.Content.{content}
 use Rattle.message_tables.specs.FirstFault.{message_of}
-use Rattle.message_tables.specs.Tables.{Item, Message, Role, Said, Table, first_of}
-use Rattle.value_kinds.specs.ValueKind.{spelling}
-use Rattle.row_values.specs.Kinds.{Kind, judge}
+use Rattle.message_tables.specs.Tables.{Item, Message, Optional, Required, Role, Said, Table}
+use Rattle.message_tables.specs.Tables.{first_of}
+use Rattle.value_kinds.specs.ValueKind.{Id, ValueKind, spelling}
+use Rattle.row_values.specs.Kinds.{Kind, Value, judge, row}
 use Rattle.row_values.specs.Lines.{party_cells}
+use Rattle.order_meaning.specs.declared.fault.Lack.{Lack}
+use Rattle.order_meaning.specs.declared.fault.Lack.TheVariants as reasons
 use Rattle.order_meaning.specs.declared.party.Three.{Three}
 use Rattle.first_faults.specs.Faults.{told}
 use Rattle.rows_fix50.specs.Header.{completed_by, table as table50}
 use Rattle.party_translate.specs.Parties.{parties_of, three_of}
-use Rattle.reports_fix44.specs.Message.{report_by, report_table as report_table44}
+use Rattle.reports_fix44.specs.Message.{cancel_reject_table as reject_table44, report_by}
+use Rattle.reports_fix44.specs.Message.{report_table as report_table44}
 use Rattle.reports_fix44.specs.Said as said44
-use Rattle.reports_fix50.specs.Message.{message50, report_table}
-use Rattle.reports_fix50.specs.Reports.{execution_report}
-use Rattle.reports_fix50.specs.Said.{report_says}
+use Rattle.reports_fix44.specs.declared.reports.CancelReject44.{CancelReject44}
+use Rattle.reports_fix50.specs.Message.{cancel_reject_table, message50, report_table}
+use Rattle.reports_fix50.specs.Reports.{cancel_reject, execution_report}
+use Rattle.reports_fix50.specs.Said.{cancel_reject_says, report_says}
+use Rattle.reports_fix50.specs.declared.reports.CancelReject50.{CancelReject50}
 use Rattle.reports_fix50.specs.declared.reports.Report50.{Report50}
 use Rattle.sound_laws.specs.Complete.{IsComplete}
-use Rattle.sound_laws.specs.Sound.{without_resend}
+use Rattle.sound_laws.specs.Sound.{IsSaid, IsSound, without_resend}
 use Rattle.sound_laws.proofs.Completed.{completed_again}
 use Rattle.sound_laws.proofs.Each.{◌&◌}
 use Rattle.sound_laws.proofs.Lookups.{places_apart}
-use Rattle.sound_laws.proofs.PlainFields.{AreFew}
-use Rattle.sound_laws.proofs.RowsSaid.{optional_said}
+use Rattle.sound_laws.proofs.PlainFields.{AreFew, few_of, times}
+use Rattle.sound_laws.proofs.RowsSaid.{optional_said, required_said, same_value}
 use Rattle.sound_laws.proofs.TableFits as fits
 use Rattle.sound_laws.proofs.TableFits.{table_fits}
 use Rattle.rule_rows.specs.ByRules.{by_rules, lack_by, or_lack}
-use Rattle.report_rules.specs.Down.{Reports50}
+use Rattle.rule_rows.specs.Rules.{By}
+use Rattle.report_rules.specs.Down.{IsId, Rejects50, Reports50}
 use Rattle.report_rules.proofs.SenseDown.{not_lacking}
-use Rattle.translation.specs.Going.{Appends, One, StayBack}
-use Rattle.translation.specs.declared.error.TranslateError.TheVariants as errors
+use Rattle.translation.specs.Going.{Appends, One}
 use Rattle.translation.proofs.BehindHeader.{IsHead, front, items_behind, read_behind, whole}
 use Rattle.translation.proofs.CarriedHeader.{head_value, own_said}
 use Rattle.report_translate.specs.Reading.{report_message}
-use Rattle.exec_translate.specs.Down.{bare}
+use Rattle.exec_translate.specs.Down.{bare, once}
 use Rattle.exec_translate.proofs.Shell.{bare_complete, few}
 use Rattle.request_translate.proofs.AsStructs.{few_again, split_is}
 use Rattle.translate_fix44.specs.Laws.{StandsDown}
-use Rattle.translate_fix44.specs.Rules.{Same, down_content, down_message, down_rules, kinds}
+use Rattle.translate_fix44.specs.Rules.{Else, Rule, Same, down_content, down_message, down_rules}
+use Rattle.translate_fix44.specs.Rules.{kinds}
 use Rattle.translate_fix44.specs.Translation.{down}
 use Rattle.translate_fix44.proofs.Go as go
-use Rattle.translate_fix44.proofs.Go.{go_down, report_goes_down}
-use Rattle.structs_fix44.specs.Down.{IsDown, with_parties}
-use Rattle.structs_fix44.proofs.Typed.{IsRead, IsTyped, behind_type, lacks, puts, same_lack, typed}
+use Rattle.translate_fix44.proofs.Go.{go_down, reject_goes_down, report_goes_down}
+use Rattle.structs_fix44.specs.Down.{IsDown, Says, named, with_parties}
+use Rattle.structs_fix44.specs.Up.{IsLackOf}
+use Rattle.structs_fix44.proofs.Typed.{IsTyped, behind_type, puts, same_lack, typed}
 
 -- ---- a content of FIX 5.0 SP2 behind its MsgType
 
@@ -69,6 +79,45 @@ module _ (letter : ℕ) (items : List (Item Kind)) (r : Message) (is : IsTyped l
       ap completed_by (read_behind t values r behind header_said fit c.sound refl flag)
       ∙ ap (λ (x : Message). Ok x) (completed_again r c.month (ap places_apart c.sound.places
       ∙ places) r.resend)
+
+-- ---- what such a body says, and what goes down of it
+
+pub is_down : {body : List ℕ} {m : Message} → Says down body m → {fields : List Field}
+    {stopped : Option SplitFault} → SplitsInto body fields stopped → {before after : List ℕ}
+    → before ≡ [] → Appends down fields stopped before after → IsDown m after
+is_down {body} {m} said split {before} {after} start h =
+    let p = puts said split before after h in record {
+      w = p.w;
+      goes = p.goes;
+      bytes = p.put ∙ ap (λ (x : List ℕ). x ++ body_of (down_content None m)) start;
+    }
+
+pub copied_says : {text body : List ℕ} → body ≡ text → {m : Message} → Says down text m
+    → Says down body m
+copied_says copied s = record {
+  fields = s.fields;
+  bytes = copied ∙ s.bytes;
+  again = s.again;
+  reads = s.reads;
+}
+
+-- what goes down is read again
+module _ {t : Table Kind} {m : Message} {content body : List ℕ} {fields : List Field}
+    {stopped : Option SplitFault} (there : IsDown m content) (d : go.IsDown t None m there.w)
+    (copied : body ≡ content) (split : SplitsInto body fields stopped) where
+  read_down : (r : Message) → report_by t fields stopped ≡ Ok r → r ≡ without_resend there.w
+  read_down r read =
+      let few = subst (λ (fs : List Field). AreFew fs) (sym d.gone.is) d.few in
+      let same = split_is body (down_content None m) fields stopped (copied ∙ there.bytes)
+      (few_again (down_content None m) few) split in
+      let e = sym read ∙ (λ i. report_by t (same.0 i) (same.1 i)) ∙ d.gone.again in
+      cc
+
+-- a lack of the message that a body says is one of another message that lacks the same
+lack_of : {x y : Result Message ℕ} → ((tag : ℕ) → x ≡ Err tag → y ≡ Err tag) → (lack : Lack)
+    → IsLackOf x lack → IsLackOf y lack
+lack_of same reasons.NoMemory h = tt
+lack_of same (reasons.Tag tag) h = same tag h
 
 -- ---- an execution report
 
@@ -97,43 +146,25 @@ module _ (msg : Report50) (c : IsComplete report_table (report_says msg)) where
   abbrev b : Message
   b = report_says (bare msg)
 
-  module _ {none first written body : List ℕ} (empty : none ≡ [])
-      (put : first ≡ none ++ field_bytes (35, codes "8"))
-      (wrote : written ≡ first ++ body_of (content report_table b)) (copied : body ≡ written)
-      {fields : List Field} {stopped : Option SplitFault} (split : SplitsInto body fields stopped)
-    where
-      own : List Field
-      own = typed 56 ++ content report_table b
+  pub report_said : {none first body : List ℕ} → none ≡ []
+      → first ≡ none ++ field_bytes (35, codes "8")
+      → body ≡ first ++ body_of (content report_table b) → Says down body b
+  unfolding report_message message50
+  report_said empty put wrote = record {
+    fields = typed 56 ++ content report_table b;
+    bytes = wrote ∙ ap (λ (x : List ℕ). x ++ body_of (content report_table b)) (put
+        ∙ ap (λ (x : List ℕ). x ++ field_bytes (35, codes "8")) empty);
+    again = behind_type 56 typed_8 (content report_table b) (few msg c);
+    reads = reads_typed 56 execution_report b typed_8 refl refl (bare_complete msg c) refl;
+  }
 
-      is_read : IsRead down own b
-      unfolding own report_message message50
-      is_read = record {
-        again = behind_type 56 typed_8 (content report_table b) (few msg c);
-        reads = reads_typed 56 execution_report b typed_8 refl refl (bare_complete msg c)
-            refl;
-      }
-
-      bytes : body ≡ body_of own
-      unfolding own
-      bytes = copied ∙ wrote ∙ ap (λ (x : List ℕ). x ++ body_of (content report_table b)) (put
-          ∙ ap (λ (x : List ℕ). x ++ field_bytes (35, codes "8")) empty)
-
-      pub report_is_down : (before after : List ℕ) → before ≡ []
-          → Appends down fields stopped before after → IsDown b after
-      report_is_down before after start h =
-          let p = puts is_read bytes split before after h in record {
-            w = p.w;
-            goes = p.goes;
-            bytes = p.put ∙ ap (λ (x : List ℕ). x ++ body_of (down_content None b)) start;
-          }
-
-      pub report_lacks : (tag : ℕ) → StayBack down fields stopped (errors.Lacking tag)
-          → down_message None (report_says msg) ≡ Err tag
-      unfolding first_of
-      report_lacks tag h =
-          let all = down_rules (Same 41) in
-          same_lack (lack_by kinds all b) (by_rules kinds all b)
-          (by_rules kinds all (report_says msg)) tag (lacks is_read bytes split tag h)
+  pub report_lacks : (lack : Lack) → IsLackOf (down_message None b) lack
+      → IsLackOf (down_message None (report_says msg)) lack
+  unfolding first_of
+  report_lacks =
+      let all = down_rules (Same 41) in
+      lack_of (same_lack (lack_by kinds all b) (by_rules kinds all b)
+      (by_rules kinds all (report_says msg)))
 
   -- ---- and what goes down of it
 
@@ -164,19 +195,141 @@ module _ (msg : Report50) (c : IsComplete report_table (report_says msg)) where
       (there : IsDown b text) (copied : body ≡ text) (split : SplitsInto body fields stopped)
       (r : Report50) (read : report_by report_table44 fields stopped ≡ Ok (said44.report_says r))
       (x : Report50) (is : x ≡ with_parties msg r) where
-    says_it : said44.report_says r ≡ without_resend there.w
-    says_it =
-        let d = report_goes_down None b there.w (bare_complete msg c) there.goes in
-        let few = subst (λ (fs : List Field). AreFew fs) (sym d.gone.is) d.few in
-        let same = split_is body (down_content None b) fields stopped (copied ∙ there.bytes)
-        (few_again (down_content None b) few) split in
-        let e = sym read ∙ (λ i. report_by report_table44 (same.0 i) (same.1 i)) ∙ d.gone.again in
-        cc
-
     pub report_down : down_message None (report_says msg) ≡ Ok (said44.report_says x)
-    report_down = by_parties there.w r there.goes says_it
+    report_down =
+        let d = report_goes_down None b there.w (bare_complete msg c) there.goes in
+        by_parties there.w r there.goes
+        (read_down {t = report_table44} there d copied split (said44.report_says r) read)
         ∙ ap (λ (y : Report50). Ok (said44.report_says y)) (sym is)
 
     pub report_stands : StandsDown None (report_says msg) (said44.report_says x)
     report_stands = go_down None tt (report_says msg) (said44.report_says x) (Reports50 c)
         report_down
+
+-- ---- a cancel reject
+
+typed_9 : IsTyped 57
+unfolding spelling
+typed_9 = record {
+  own = record { kind = (refl, refl); carried = tt & tt & tt & tt & tt & tt & tt & tt };
+  type = One 57 (λ no. absurd (omega (arith, no))) refl;
+  clear = λ h. refl;
+}
+
+-- what a row says beside some fields it says beside others
+module _ {f g : List Field} {tag : ℕ} {kind : ValueKind} {said : Said} where
+  needed_beside : IsSaid judge f (row Required tag kind) said
+      → IsSaid judge g (row Required tag kind) said
+  needed_beside h = required_said g tag (Value kind) said (h.needed refl)
+      (same_value f g kind said h.spelled) h.clear
+
+  said_beside : IsSaid judge f (row Optional tag kind) said
+      → IsSaid judge g (row Optional tag kind) said
+  said_beside h =
+      optional_said g tag (Value kind) said (same_value f g kind said h.spelled) h.clear
+
+module _ (msg : CancelReject50) where
+  -- it, where it says this id of its order
+  abbrev of : Said → CancelReject50
+  of orig = record msg { orig_id = orig }
+
+  -- its content and the id that is known
+  abbrev content_of : (known orig : Said) → Message
+  content_of known orig = cancel_reject_says (once (named known (of orig)))
+
+  named_sound : (known orig : Said) → IfSome known IsId
+      → IsSound judge cancel_reject_table (cancel_reject_says (of orig))
+      → IsSound judge cancel_reject_table (content_of known orig)
+  named_sound (Some known) None id s =
+      let i = s.items in
+      let fields = content cancel_reject_table (content_of (Some known) None) in
+      record {
+        letter = refl;
+        places = refl;
+        counts = refl;
+        items = needed_beside i.0 & said_beside i.1.0 & needed_beside i.1.1.0
+            & optional_said fields 41 (Value Id) (Some known)
+            (same_value [] fields Id (Some known) id.0) id.1
+            & needed_beside i.1.1.1.1.0 & said_beside i.1.1.1.1.1.0
+            & said_beside i.1.1.1.1.1.1.0 & needed_beside i.1.1.1.1.1.1.1.0
+            & said_beside i.1.1.1.1.1.1.1.1.0 & said_beside i.1.1.1.1.1.1.1.1.1.0 & tt;
+      }
+  named_sound None None id s =
+      record { letter = refl; places = refl; counts = refl; items = s.items }
+  named_sound known (Some said) id s =
+      record { letter = refl; places = refl; counts = refl; items = s.items }
+
+  -- the id that is known goes down as one that was said
+  named_goes : (known orig : Said) → down_message None (cancel_reject_says (named known (of orig)))
+      ≡ down_message known (cancel_reject_says (of orig))
+  unfolding first_of
+  named_goes known (Some said) = refl
+  named_goes None None = refl
+  named_goes (Some known) None = refl
+
+-- a cancel reject as a body
+module _ (msg : CancelReject50) where
+  abbrev once_said : Message
+  once_said = cancel_reject_says (once msg)
+
+  pub reject_said : IsComplete cancel_reject_table once_said → {none first body : List ℕ}
+      → none ≡ [] → first ≡ none ++ field_bytes (35, codes "9")
+      → body ≡ first ++ body_of (content cancel_reject_table once_said) → Says down body once_said
+  unfolding report_message message50 is_data_tag times
+  reject_said c empty put wrote =
+      let own = content cancel_reject_table once_said in record {
+        fields = typed 57 ++ own;
+        bytes = wrote ∙ ap (λ (x : List ℕ). x ++ body_of own) (put
+            ∙ ap (λ (x : List ℕ). x ++ field_bytes (35, codes "9")) empty);
+        again = behind_type 57 typed_9 own
+            (few_of judge cancel_reject_table once_said refl (lit≤ tt) c.sound);
+        reads = reads_typed 57 cancel_reject once_said typed_9 refl refl c refl;
+      }
+
+module _ (known : Said) (msg : CancelReject50) (id : IfSome known IsId)
+    (c : IsComplete cancel_reject_table (cancel_reject_says msg)) where
+  abbrev n : Message
+  n = cancel_reject_says (named known msg)
+
+  abbrev q : Message
+  q = cancel_reject_says (once (named known msg))
+
+  pub named_complete : IsComplete cancel_reject_table q
+  named_complete = record { sound = named_sound msg known msg.orig_id id c.sound; month = refl }
+
+  abbrev all : List Rule
+  all = down_rules (By (Else 41 None))
+
+  pub reject_lacks : (lack : Lack) → IsLackOf (down_message None q) lack
+      → IsLackOf (down_message known (cancel_reject_says msg)) lack
+  unfolding first_of
+  reject_lacks = lack_of (λ tag h. sym (named_goes msg known msg.orig_id)
+      ∙ same_lack (lack_by kinds all q) (by_rules kinds all q) (by_rules kinds all n) tag h)
+
+  -- ---- and what goes down of it
+
+  by_resend : (w : Message) (r : CancelReject44) → down_message None q ≡ Ok w
+      → said44.cancel_reject_says r ≡ without_resend w
+      → down_message None n ≡ Ok (said44.cancel_reject_says (record r { resend = msg.resend }))
+  unfolding first_of
+  by_resend w r goes is =
+      let d = not_lacking (lack_by kinds all q) (by_rules kinds all q) w goes in
+      let put = ap (λ (x : Message). record x { resend = msg.resend }) (is
+      ∙ ap without_resend (sym d.1)) in
+      ap (λ (l : Option ℕ). or_lack l (by_rules kinds all n)) d.0
+      ∙ ap (λ (x : Message). Ok x) (sym put)
+
+  module _ {text body : List ℕ} {fields : List Field} {stopped : Option SplitFault}
+      (there : IsDown q text) (copied : body ≡ text) (split : SplitsInto body fields stopped)
+      (r : CancelReject44)
+      (read : report_by reject_table44 fields stopped ≡ Ok (said44.cancel_reject_says r)) where
+    pub reject_down : down_message known (cancel_reject_says msg)
+        ≡ Ok (said44.cancel_reject_says (record r { resend = msg.resend }))
+    reject_down =
+        let d = reject_goes_down None tt q there.w named_complete there.goes in
+        sym (named_goes msg known msg.orig_id) ∙ by_resend there.w r there.goes
+        (read_down {t = reject_table44} there d copied split (said44.cancel_reject_says r) read)
+
+    pub reject_stands : StandsDown known (cancel_reject_says msg)
+        (said44.cancel_reject_says (record r { resend = msg.resend }))
+    reject_stands = go_down known id (cancel_reject_says msg) _ (Rejects50 c) reject_down

@@ -1,6 +1,6 @@
 -- A request or report as a struct: its content is split and read again behind its MsgType, and what
 -- is known of these fields is so of what the struct says.
-use Rattle.std.proofs.Common.{◌≡◌, ◌≤◌, ◌++◌, ◌∙◌, ℕ, List, [], ◌∷◌, Bool, false, true, Option, None}
+use Rattle.std.proofs.Common.{◌≡◌, ◌++◌, ◌∙◌, ℕ, List, [], ◌∷◌, Bool, false, true, Option, None}
 use Rattle.std.proofs.Common.{Ok, Err, Some, refl, sym, ap, subst, arith}
 use Rattle.field_groups.specs.Data.{is_data_tag}
 use Rattle.field_groups.specs.declared.fault.SplitFault.{SplitFault}
@@ -46,6 +46,7 @@ use Rattle.request_translate.proofs.AsStructs.{few_again, split_is}
 use Rattle.report_translate.proofs.DownAgain.{message_again}
 use Rattle.translate_fix44.specs.Laws.{IsRequest44, StandsUp}
 use Rattle.translate_fix44.specs.Rules.{kinds, up_content, up_lack, up_message, up_rules}
+use Rattle.structs_fix44.specs.Down.{Says}
 use Rattle.structs_fix44.specs.Up.{IsSound44, IsUp}
 use Rattle.translate_fix44.specs.Translation.{up}
 use Rattle.translate_fix44.proofs.Go.{go_up}
@@ -60,11 +61,6 @@ pub record IsTyped (letter : ℕ) : Type 0 where
   pub own : IsOwnHead (letter ∷ []) (typed letter)
   pub type : IsType (letter ∷ [])
   pub clear : (IsClearField judge) (35, letter ∷ [])
-
--- fields that are split again, and read as a message in a direction
-pub record IsRead (d : Direction) (fields : List Field) (m : Message) : Type 0 where
-  pub again : SplitsInto (body_of fields) fields None
-  pub reads : d.source (type_of fields) fields None ≡ Ok m
 
 module _ (letter : ℕ) (is : IsTyped letter) (written : List Field) (few : AreFew written) where
   pub behind_type : SplitsInto (body_of (typed letter ++ written)) (typed letter ++ written) None
@@ -89,14 +85,13 @@ module _ (letter : ℕ) (items : List (Item Kind)) (r : Message) (is : IsTyped l
 
 -- ---- what is known of such fields in a direction
 
-module _ {d : Direction} {own : List Field} {m : Message} (is : IsRead d own m) {body : List ℕ}
-    (bytes : body ≡ body_of own) {fields : List Field} {stopped : Option SplitFault}
-    (split : SplitsInto body fields stopped) where
+module _ {d : Direction} {body : List ℕ} {m : Message} (said : Says d body m) {fields : List Field}
+    {stopped : Option SplitFault} (split : SplitsInto body fields stopped) where
   message_is : (n : Message) → AreRead d fields stopped n → n ≡ m
   message_is n read =
-      let same = (split_is body own fields stopped bytes is.again split).0 in
+      let same = (split_is body said.fields fields stopped said.bytes said.again split).0 in
       let e = sym read.read ∙ ap (λ (fs : List Field). d.source (type_of fs) fs None) same
-      ∙ is.reads in cc
+      ∙ said.reads in cc
 
   -- what is appended, and what becomes of the message
   pub record Puts (before after : List ℕ) : Type 0 where
@@ -201,25 +196,19 @@ module _ (msg : Msg44) (c : IsSound44 msg) {type none first written body : List 
     (wrote : written ≡ first ++ body_of (content44 msg)) (copied : body ≡ written)
     {fields : List Field} {stopped : Option SplitFault} (split : SplitsInto body fields stopped)
   where
-    own : List Field
-    own = typed (says msg).letter ++ content44 msg
-
-    is_read : IsRead up own (without_resend (says msg))
-    unfolding own
-    is_read = record {
+    said : Says up body (without_resend (says msg))
+    said = record {
+      fields = typed (says msg).letter ++ content44 msg;
+      bytes = copied ∙ wrote ∙ ap (λ (b : List ℕ). b ++ body_of (content44 msg)) (put
+          ∙ (λ i. empty i ++ field_bytes (35, is i)));
       again = behind_type (says msg).letter (is_typed msg) (content44 msg) (few44 msg c);
       reads = reads44 msg c;
     }
 
-    bytes : body ≡ body_of own
-    unfolding own
-    bytes = copied ∙ wrote ∙ ap (λ (b : List ℕ). b ++ body_of (content44 msg)) (put
-        ∙ (λ i. empty i ++ field_bytes (35, is i)))
-
     pub is_up : (before after : List ℕ) → before ≡ [] → Appends up fields stopped before after
         → IsUp (says msg) after
     is_up before after start h =
-        let p = puts is_read bytes split before after h in
+        let p = puts said split before after h in
         let m = without_resend (says msg) in record {
           said = has_none (up_lack m) (by_rules kinds up_rules m) p.w p.goes;
           bytes = p.put ∙ ap (λ (b : List ℕ). b ++ body_of (up_content m)) start;
@@ -230,7 +219,7 @@ module _ (msg : Msg44) (c : IsSound44 msg) {type none first written body : List 
     up_lacks tag h =
         let m = without_resend (says msg) in
         same_lack (up_lack m) (by_rules kinds up_rules m) (by_rules kinds up_rules (says msg)) tag
-        (lacks is_read bytes split tag h)
+        (lacks said split tag h)
 
 -- ---- and what goes up of it
 

@@ -5,5 +5,5 @@
 mod downward;
 mod upward;
 
-pub use downward::down_report44;
+pub use downward::{down_cancel_reject44, down_report44};
 pub use upward::up44;
