@@ -3,7 +3,7 @@
 use crate::requests::Asked::{Content, Type};
 use crate::wires::SIGNS;
 use crate::words::answered;
-use crate::{downward, refusals, reports42, reports50, requests, upward};
+use crate::{downward, fix44, refusals, reports42, reports50, requests, upward};
 use row_words::{Answers, Sign};
 use std::alloc::{AllocError, Global};
 
@@ -18,6 +18,11 @@ impl Answers for Calls {
             "write42" => requests::of_42(alloc, Content, given),
             "read50" => requests::of_50(alloc, Type, given),
             "write50" => requests::of_50(alloc, Content, given),
+            "read44" => fix44::of_44(alloc, Type, given),
+            "write44" => fix44::of_44(alloc, Content, given),
+            "up44" => fix44::up(alloc, given),
+            "down_report44" => fix44::report(alloc, given),
+            "down_cancel_reject44" => fix44::cancel_reject(alloc, given),
             "report42" => reports42::content(alloc, given),
             "report50" => reports50::content(alloc, given),
             "up" => upward::frame(alloc, given),

@@ -70,7 +70,7 @@ fn cancel_reject_down(
 
 /// The original id that a word says, which is A1 or none.
 #[tactic(auto, unfolding(row_values::specs::Kinds::judge, value_kinds::specs::ValueKind::spelling))]
-fn original(word: &str) -> Option<&'static [u8]>
+pub(crate) fn original(word: &str) -> Option<&'static [u8]>
     ensures { IfSome (option_map (λ id. id.now) result) IsId }
 {
     match word {

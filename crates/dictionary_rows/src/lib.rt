@@ -1,8 +1,9 @@
-//! The calls of rows of the dictionaries of both versions, of the translators and of the refusals.
+//! The calls of rows of the dictionaries of each version, of the translators and of the refusals.
 #![tactic(auto)]
 
 mod answers;
 mod downward;
+mod fix44;
 mod refusals;
 mod reports42;
 mod reports50;

@@ -65,7 +65,7 @@ pub(crate) fn of_42(alloc: Global, asked: Asked, given: &str) -> Result<Vec<u8>,
 }
 
 /// What is written of a request of FIX 5.0 SP2.
-fn written50(alloc: Global, message: &Msg50) -> Result<Vec<u8>, AllocError>
+pub(crate) fn written50(alloc: Global, message: &Msg50) -> Result<Vec<u8>, AllocError>
     requires { IsReadable50 message.now }
 {
     let mut out = Vec::new(alloc);
@@ -84,7 +84,7 @@ fn told50(alloc: Global, asked: Asked, message: &Msg50) -> Result<Vec<u8>, Alloc
 }
 
 /// Drops a request of FIX 5.0 SP2.
-fn let_go50(message: Msg50) {
+pub(crate) fn let_go50(message: Msg50) {
     match message {
         Msg50::New(new) => let_go(new),
         Msg50::Cancel(cancel) => let_go(cancel),
