@@ -51,7 +51,7 @@ pub(crate) fn lack_up(source: &Source<'_, '_>) -> Option<u32>
     requires { IsRead source.now }
     ensures { result ≡ up_lack (message source.now) }
 {
-    match first_lack(source, request_rules()) {
+    match first_lack(source, request_rules().lacking) {
         None => lack_of_roles(source),
         Some(tag) => Some(tag),
     }
@@ -69,7 +69,7 @@ pub(crate) fn put_up(source: &Source<'_, '_>, out: &mut Vec<u8>) -> Result<(), L
         (Appends up source.now.fields.now None out.old.items out.new.items) }
     ensures lack { IfErr result (Lacks up source.now.fields.now) }
 {
-    put_rules(source, request_rules(), out)?;
+    put_rules(source, request_rules().all, out)?;
     match lack_of_roles(source) {
         None => Ok(()),
         Some(tag) => Err(Lack::Tag(tag)),

@@ -1,11 +1,12 @@
 //! The rules of both directions, as the code has them.
 
 ghost use Rattle.std.specs.Prelude.{◌≡◌, None};
+ghost use Rattle.message_tables.specs.Tables.{first_of};
 ghost use Rattle.order_meaning.specs.Request.{RequestKind};
 ghost use Rattle.reports_fix50.specs.Message.{cancel_reject_table, report_table};
 ghost use Rattle.rule_rows.specs.Rules.{By as Is};
-ghost use Rattle.rule_rows.specs.CodeRules.{AreFor};
-ghost use Rattle.translate_fix44.specs.CodeRules.{code};
+ghost use Rattle.rule_rows.specs.CodeRules.{AreFor, lacked};
+ghost use Rattle.translate_fix44.specs.CodeRules.{Source, code, lacks};
 ghost use Rattle.dict_fix44.specs.Requests.{asked44};
 ghost use Rattle.translate_fix44.specs.Rules as rules;
 ghost use Rattle.translate_fix44.specs.Rules.{down_rules, up_rules};
@@ -42,6 +43,15 @@ use Own::{AtClose, HandlInst, Month, Original, Parties, PartyOf, Told, Turned, W
 /// A rule of either direction.
 pub(crate) type Rule = rule_rows::Rule<Own>;
 
+/// OrdType(40) of a request.
+const ORD_TYPE: Rule = By(Turned(40, b"1234", None));
+
+/// TimeInForce(59), likewise.
+const TIME_IN_FORCE: Rule = By(AtClose);
+
+/// OrderCapacity(528), likewise.
+const ORDER_CAPACITY: Rule = By(Turned(528, b"AIP", None));
+
 /// The rules of a request, in the order of writing.
 #[rattlefmt::skip]
 static REQUEST_RULES: [Rule; 40] = [
@@ -74,18 +84,21 @@ static REQUEST_RULES: [Rule; 40] = [
     Same(114), // LocateReqd
     Same(60), // TransactTime
     Decimal(38, 38), // OrderQty
-    By(Turned(40, b"1234", None)), // OrdType
+    ORD_TYPE,
     Decimal(44, 44), // Price
     Decimal(99, 99), // StopPx
     Same(15), // Currency
-    By(AtClose), // TimeInForce
+    TIME_IN_FORCE,
     Same(168), // EffectiveTime
     Same(432), // ExpireDate
     Same(126), // ExpireTime
-    By(Turned(528, b"AIP", None)), // OrderCapacity
+    ORDER_CAPACITY,
     Same(77), // PositionEffect
     Same(58), // Text
 ];
+
+/// Those of them that may lack something.
+static LACKING_RULES: [Rule; 3] = [ORD_TYPE, TIME_IN_FORCE, ORDER_CAPACITY];
 
 /// The rules of Execution Report (8), likewise.
 #[rattlefmt::skip]
@@ -154,11 +167,23 @@ static REJECT_RULES: [Rule; 10] = [
     By(Told(false)), // Text
 ];
 
+/// The rules of a request, and those of them that are asked where nothing is written.
+#[derive(Clone, Copy, Debug)]
+pub(crate) struct RequestRules {
+    pub(crate) all: &'static [Rule],
+    pub(crate) lacking: &'static [Rule],
+}
+
 /// The rules of a request.
-pub(crate) fn request_rules() -> &'static [Rule]
-    ensures { (kind : RequestKind) → AreFor code (asked44 kind) up_rules result.now }
+pub(crate) fn request_rules() -> RequestRules
+    ensures all { (kind : RequestKind) → AreFor code (asked44 kind) up_rules result.all.now }
+    ensures lacking { (s : Source)
+        → first_of (lacked lacks s) result.lacking.now ≡ first_of (lacked lacks s) result.all.now }
 {
-    &REQUEST_RULES
+    RequestRules {
+        all: &REQUEST_RULES,
+        lacking: &LACKING_RULES,
+    }
 }
 
 /// The rules of an execution report.
