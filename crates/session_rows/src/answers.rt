@@ -42,18 +42,13 @@ fn words_text(alloc: Global, words: &Words) -> Result<String, AllocError> {
     format!(in alloc; "{} {msg_type}{again} {content}", letter(words.to))
 }
 
-// The order that a request is of, where it has one.
-fn orig_text(alloc: Global, item: &ChainItem) -> Result<String, AllocError> {
-    match &item.orig {
-        Some(orig) => format!(in alloc; " of {}", shown(alloc, orig.as_slice())?),
-        None => Ok(String::new(alloc)),
-    }
-}
-
 // The request that joins, by its id and the id of its order.
 fn item_text(alloc: Global, item: &ChainItem) -> Result<String, AllocError> {
     let id = shown(alloc, item.id.as_slice())?;
-    let orig = orig_text(alloc, item)?;
+    let orig = match &item.orig {
+        Some(orig) => format!(in alloc; " of {}", shown(alloc, orig.as_slice())?)?,
+        None => String::new(alloc),
+    };
     format!(in alloc;
         " joins {id}{orig} as {}{}",
         item.number,

@@ -61,18 +61,6 @@ fn copied(alloc: Global, buf: &FrameBuf) -> Result<Vec<u8>, AllocError> {
     Vec::from_slice(alloc, buf.bytes())
 }
 
-fn sent(
-    alloc: Global,
-    names: &Names,
-    sending: &Sending,
-    msg_type: &str,
-    content: &[u8],
-) -> Result<Vec<u8>, AllocError> {
-    let mut buf = FrameBuf::new(alloc)?;
-    send(names, sending, msg_type.as_bytes(), content, &mut buf);
-    copied(alloc, &buf)
-}
-
 fn frame_of(
     alloc: Global,
     names: &Names,
@@ -83,7 +71,9 @@ fn frame_of(
         return Vec::from_slice(alloc, b"no type");
     };
     let content = bytes_of(alloc, &[SOH], fields)?;
-    sent(alloc, names, sending, msg_type, &content)
+    let mut buf = FrameBuf::new(alloc)?;
+    send(names, sending, msg_type.as_bytes(), &content, &mut buf);
+    copied(alloc, &buf)
 }
 
 fn frame_between(alloc: Global, names: Option<Names>, given: &str) -> Result<Vec<u8>, AllocError> {
@@ -131,12 +121,6 @@ fn fill(names: &Names, sending: &Sending, to: u32, buf: &mut FrameBuf) {
     }
 }
 
-fn filled(alloc: Global, names: &Names, sending: &Sending, to: u32) -> Result<Vec<u8>, AllocError> {
-    let mut buf = FrameBuf::new(alloc)?;
-    fill(names, sending, to, &mut buf);
-    copied(alloc, &buf)
-}
-
 /// The frame of a gap fill: given are the side, the first number, the moment of the first time and
 /// that of now, and the last number.
 pub(crate) fn gap_fill(alloc: Global, given: &str) -> Result<Vec<u8>, AllocError> {
@@ -145,7 +129,11 @@ pub(crate) fn gap_fill(alloc: Global, given: &str) -> Result<Vec<u8>, AllocError
         read_sending(given),
         number(word(given, 4)),
     ) {
-        (Some(names), Some(sending), Some(to)) => filled(alloc, &names, &sending, to),
+        (Some(names), Some(sending), Some(to)) => {
+            let mut buf = FrameBuf::new(alloc)?;
+            fill(&names, &sending, to, &mut buf);
+            copied(alloc, &buf)
+        }
         _ => Vec::from_slice(alloc, b"no gap to fill"),
     }
 }

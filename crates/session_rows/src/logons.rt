@@ -7,7 +7,7 @@ use field_groups::split;
 use order_meaning::Side;
 use row_words::{SOH, behind, bytes_of, long_number, number, shown, side_of, word};
 use session_core::{Admin, Head, Why};
-use session_logon::{Said42, check_logon, read_head, say};
+use session_logon::{check_logon, read_head, say};
 use std::alloc::{AllocError, Global};
 
 /// The type of a text that begins with the field 35, and what is behind that.
@@ -138,14 +138,6 @@ fn admin(text: &str) -> Option<Admin> {
     }
 }
 
-// A message as its type, `|` and its content; `+` before it where a gap fill stands for it.
-fn said_words(alloc: Global, said: &Said42) -> Result<String, AllocError> {
-    let admin = if said.admin { "+" } else { "" };
-    let msg_type = shown(alloc, said.msg_type.as_slice())?;
-    let content = shown(alloc, said.content.as_slice())?;
-    format!(in alloc; "{admin}{msg_type}|{content}")
-}
-
 /// What HeartBtInt(108) is, the message's own number, and the number and the type that it answers.
 #[derive(Clone, Copy)]
 struct About<'a> {
@@ -164,6 +156,7 @@ fn read_about(text: &str) -> Option<About<'_>> {
     })
 }
 
+// A message as its type, `|` and its content; `+` before it where a gap fill stands for it.
 fn said_of(
     alloc: Global,
     side: Side,
@@ -180,7 +173,10 @@ fn said_of(
         about.msg_type.as_bytes(),
         b"ping",
     )?;
-    said_words(alloc, &said)
+    let admin = if said.admin { "+" } else { "" };
+    let msg_type = shown(alloc, said.msg_type.as_slice())?;
+    let content = shown(alloc, said.content.as_slice())?;
+    format!(in alloc; "{admin}{msg_type}|{content}")
 }
 
 /// What is said: given are the side, HeartBtInt(108), the message's own number, the number and the

@@ -132,25 +132,19 @@ fn body_plan(
     core.plan(alloc, journal, &Event::Frame(side, body), NOW)
 }
 
-/// What is planned where a side's connection opened, as a text, once it is done.
-pub(crate) fn opened(
+/// What is planned where a side's connection opened, or where it ended, as a text, once it is done.
+pub(crate) fn connected(
     alloc: Global,
     core: &mut Core,
     journal: &Journal,
     side: Side,
+    has_opened: bool,
 ) -> Result<String, AllocError> {
-    let plan = core.plan(alloc, journal, &Event::Opened(side), NOW);
-    done(alloc, core, plan)
-}
-
-/// The same where it ended.
-pub(crate) fn closed(
-    alloc: Global,
-    core: &mut Core,
-    journal: &Journal,
-    side: Side,
-) -> Result<String, AllocError> {
-    let plan = core.plan(alloc, journal, &Event::Closed(side), NOW);
+    let plan = if has_opened {
+        core.plan(alloc, journal, &Event::Opened(side), NOW)
+    } else {
+        core.plan(alloc, journal, &Event::Closed(side), NOW)
+    };
     done(alloc, core, plan)
 }
 

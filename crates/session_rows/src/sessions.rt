@@ -63,57 +63,27 @@ fn reason(number: u32) -> u8 {
     u8::try_from(number).unwrap_or(0)
 }
 
-// A kind whose first number is bounded.
-fn numbered_kind(name: &str, a: u32, b: u32) -> Option<What>
+// The kind of a name and of up to two numbers, of which some are bounded.
+fn kind(name: &str, a: u32, b: u32) -> Option<What>
     ensures { IfSome result (λ what. HasNumbers what) }
 {
-    if a == 0 || a > ALL_USED {
-        return None;
-    }
+    let (reset, reason) = (b == 1, reason(b));
     match name {
-        "GapFill" => Some(What::GapFill { to: a }),
-        "Reset" => Some(What::Reset { to: a }),
-        "ResendRequest" if a <= MAX_MSG_SEQ_NUM => Some(What::ResendRequest { from: a, to: b }),
-        _ => None,
-    }
-}
-
-fn faulty_kind(name: &str, tag: u32, reason: u8) -> Option<What>
-    ensures { IfSome result (λ what. HasNumbers what) }
-{
-    match name {
-        "BadLogon" => Some(What::BadLogon { tag }),
-        "FaultyReset" => Some(What::FaultyReset { tag, reason }),
-        "Faulty" => Some(What::Faulty { tag, reason }),
-        _ => None,
-    }
-}
-
-fn plain_kind(name: &str, heart: u32, reset: bool) -> Option<What>
-    ensures { IfSome result (λ what. HasNumbers what) }
-{
-    match name {
-        "Logon" => Some(What::Logon { heart, reset }),
+        "Logon" => Some(What::Logon { heart: a, reset }),
         "Heartbeat" => Some(What::Heartbeat),
         "TestRequest" => Some(What::TestRequest),
         "Reject" => Some(What::Reject),
         "Logout" => Some(What::Logout),
         "App" => Some(What::App),
+        "BadLogon" => Some(What::BadLogon { tag: a }),
+        "FaultyReset" => Some(What::FaultyReset { tag: a, reason }),
+        "Faulty" => Some(What::Faulty { tag: a, reason }),
+        _ if a == 0 || a > ALL_USED => None,
+        "GapFill" => Some(What::GapFill { to: a }),
+        "Reset" => Some(What::Reset { to: a }),
+        "ResendRequest" if a <= MAX_MSG_SEQ_NUM => Some(What::ResendRequest { from: a, to: b }),
         _ => None,
     }
-}
-
-// The kind of a name and of up to two numbers.
-fn kind(name: &str, a: u32, b: u32) -> Option<What>
-    ensures { IfSome result (λ what. HasNumbers what) }
-{
-    if let Some(what) = plain_kind(name, a, b == 1) {
-        return Some(what);
-    }
-    if let Some(what) = faulty_kind(name, a, reason(b)) {
-        return Some(what);
-    }
-    numbered_kind(name, a, b)
 }
 
 fn message_number(word: &str) -> Option<u32>
@@ -169,14 +139,9 @@ pub(crate) fn session_words(alloc: Global, session: &Session) -> Result<String, 
 }
 
 // The acts and the session after them.
-fn step_words(alloc: Global, step: &Step) -> Result<String, AllocError> {
-    let session = session_words(alloc, &step.next)?;
-    format!(in alloc; "{:?} {session}", step.acts)
-}
-
 fn stepped(alloc: Global, step: Result<Step, Spent>) -> Result<String, AllocError> {
     match step {
-        Ok(step) => step_words(alloc, &step),
+        Ok(step) => { format!(in alloc; "{:?} {}", step.acts, session_words(alloc, &step.next)?) }
         Err(Spent) => format!(in alloc; "Spent"),
     }
 }
@@ -194,15 +159,8 @@ pub(crate) fn heard(
     }
 }
 
-// The number of a message that is given out, and the session after it.
-fn given(alloc: Global, session: &Session, now: u64) -> Result<String, AllocError> {
-    match session.give(now) {
-        Ok((number, after)) => format!(in alloc; "{number} {}", session_words(alloc, &after)?),
-        Err(Spent) => format!(in alloc; "Spent"),
-    }
-}
-
-// A call on a session at a moment.
+// A call on a session at a moment. The number of a message that is given out stands before the
+// session after it.
 fn called(
     alloc: Global,
     call: &str,
@@ -215,7 +173,10 @@ fn called(
         "tick" => stepped(alloc, session.on_tick(now)),
         "open" => stepped(alloc, session.on_open(now)),
         "end" => stepped(alloc, session.on_end(now)),
-        "give" => given(alloc, session, now),
+        "give" => match session.give(now) {
+            Ok((number, after)) => format!(in alloc; "{number} {}", session_words(alloc, &after)?),
+            Err(Spent) => format!(in alloc; "Spent"),
+        },
         "on-closed" => session_words(alloc, &session.on_closed()),
         "new" => {
             let new = Session::new(session.side, session.numbers, session.heart);

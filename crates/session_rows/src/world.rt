@@ -2,7 +2,7 @@
 
 use crate::answers::{answer, chained};
 use crate::entries::{put_birth, put_entry, put_new_day};
-use crate::plans::{active, begun, closed, frame, held, numbers, opened, restarted};
+use crate::plans::{active, begun, connected, frame, held, numbers, restarted};
 use crate::{frames, logons, sessions};
 use gateway_core::Core;
 use order_meaning::Side;
@@ -29,8 +29,7 @@ fn side_answer(
     text: &str,
 ) -> Result<String, AllocError> {
     match call {
-        "opened" => opened(alloc, core, journal, side),
-        "closed" => closed(alloc, core, journal, side),
+        "opened" | "closed" => connected(alloc, core, journal, side, call == "opened"),
         "frame" => frame(alloc, core, journal, side, text),
         "held" => held(alloc, core, journal, side, text),
         _ => format!(in alloc; "no such call"),
@@ -86,12 +85,6 @@ impl World {
         Ok(String::new(alloc))
     }
 
-    // Puts an entry behind the journal.
-    fn put(&mut self, alloc: Global, given: &str) -> Result<String, AllocError> {
-        put_entry(alloc, &mut self.image, self.day, given)?;
-        Ok(String::new(alloc))
-    }
-
     // Puts the entry with which a day begins behind it.
     fn turn(&mut self, alloc: Global, given: &str) -> Result<String, AllocError> {
         self.day = self.day.saturating_add(1);
@@ -120,7 +113,10 @@ impl World {
     fn text(&mut self, alloc: Global, call: &str, given: &str) -> Result<String, AllocError> {
         match call {
             "journal" => self.begin(alloc),
-            "entry" => self.put(alloc, given),
+            "entry" => {
+                put_entry(alloc, &mut self.image, self.day, given)?;
+                Ok(String::new(alloc))
+            }
             "day" => self.turn(alloc, given),
             "answer" => answer(alloc, &self.image, given),
             "number-of" | "orig-of" => chained(alloc, &self.image, call, given),
