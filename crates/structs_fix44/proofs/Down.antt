@@ -9,10 +9,10 @@ use Rattle.field_groups.specs.Field.{Field, body_of, field_bytes}
 use Rattle.field_groups.specs.Fields.{SplitsInto}
 use Rattle.message_tables.specs.Content.{content}
 use Rattle.message_tables.specs.FirstFault.{message_of}
-use Rattle.message_tables.specs.Tables.{Item, Message, Optional, Required, Role, Said, Table}
+use Rattle.message_tables.specs.Tables.{Item, Message, Role, Said, Table}
 use Rattle.message_tables.specs.Tables.{first_of}
-use Rattle.value_kinds.specs.ValueKind.{Id, ValueKind, spelling}
-use Rattle.row_values.specs.Kinds.{Kind, Value, judge, row}
+use Rattle.value_kinds.specs.ValueKind.{spelling}
+use Rattle.row_values.specs.Kinds.{Kind, judge}
 use Rattle.row_values.specs.Lines.{party_cells}
 use Rattle.order_meaning.specs.declared.fault.Lack.{Lack}
 use Rattle.order_meaning.specs.declared.fault.Lack.TheVariants as reasons
@@ -30,12 +30,12 @@ use Rattle.reports_fix50.specs.Said.{cancel_reject_says, report_says}
 use Rattle.reports_fix50.specs.declared.reports.CancelReject50.{CancelReject50}
 use Rattle.reports_fix50.specs.declared.reports.Report50.{Report50}
 use Rattle.sound_laws.specs.Complete.{IsComplete}
-use Rattle.sound_laws.specs.Sound.{IsSaid, IsSound, without_resend}
+use Rattle.sound_laws.specs.Sound.{without_resend}
 use Rattle.sound_laws.proofs.Completed.{completed_again}
 use Rattle.sound_laws.proofs.Each.{◌&◌}
 use Rattle.sound_laws.proofs.Lookups.{places_apart}
 use Rattle.sound_laws.proofs.PlainFields.{AreFew, few_of, times}
-use Rattle.sound_laws.proofs.RowsSaid.{optional_said, required_said, same_value}
+use Rattle.sound_laws.proofs.RowsSaid.{optional_said}
 use Rattle.sound_laws.proofs.TableFits as fits
 use Rattle.sound_laws.proofs.TableFits.{table_fits}
 use Rattle.rule_rows.specs.ByRules.{by_rules, lack_by, or_lack}
@@ -52,10 +52,10 @@ use Rattle.request_translate.proofs.AsStructs.{few_again, split_is}
 use Rattle.translate_fix44.specs.Laws.{StandsDown}
 use Rattle.translate_fix44.specs.Rules.{Else, Rule, Same, down_content, down_message, down_rules}
 use Rattle.translate_fix44.specs.Rules.{kinds}
-use Rattle.translate_fix44.specs.Translation.{down}
+use Rattle.translate_fix44.specs.Translation.{down, down_by}
 use Rattle.translate_fix44.proofs.Go as go
 use Rattle.translate_fix44.proofs.Go.{go_down, reject_goes_down, report_goes_down}
-use Rattle.structs_fix44.specs.Down.{IsDown, Says, named, with_parties}
+use Rattle.structs_fix44.specs.Down.{IsDown, Says, with_parties}
 use Rattle.structs_fix44.specs.Up.{IsLackOf}
 use Rattle.structs_fix44.proofs.Typed.{IsTyped, behind_type, puts, same_lack, typed}
 
@@ -82,14 +82,21 @@ module _ (letter : ℕ) (items : List (Item Kind)) (r : Message) (is : IsTyped l
 
 -- ---- what such a body says, and what goes down of it
 
-pub is_down : {body : List ℕ} {m : Message} → Says down body m → {fields : List Field}
-    {stopped : Option SplitFault} → SplitsInto body fields stopped → {before after : List ℕ}
-    → before ≡ [] → Appends down fields stopped before after → IsDown m after
-is_down {body} {m} said split {before} {after} start h =
-    let p = puts said split before after h in record {
+-- it says the same, whatever id is known besides
+pub known_says : (known : Said) {body : List ℕ} {m : Message} → Says down body m
+    → Says (down_by known) body m
+known_says known s =
+    record { fields = s.fields; bytes = s.bytes; again = s.again; reads = s.reads }
+
+pub is_down : (known : Said) {body : List ℕ} {m : Message} → Says down body m
+    → {fields : List Field} {stopped : Option SplitFault} → SplitsInto body fields stopped
+    → {before after : List ℕ} → before ≡ [] → Appends (down_by known) fields stopped before after
+    → IsDown known m after
+is_down known {body} {m} said split {before} {after} start h =
+    let p = puts (known_says known said) split before after h in record {
       w = p.w;
       goes = p.goes;
-      bytes = p.put ∙ ap (λ (x : List ℕ). x ++ body_of (down_content None m)) start;
+      bytes = p.put ∙ ap (λ (x : List ℕ). x ++ body_of (down_content known m)) start;
     }
 
 pub copied_says : {text body : List ℕ} → body ≡ text → {m : Message} → Says down text m
@@ -102,14 +109,15 @@ copied_says copied s = record {
 }
 
 -- what goes down is read again
-module _ {t : Table Kind} {m : Message} {content body : List ℕ} {fields : List Field}
-    {stopped : Option SplitFault} (there : IsDown m content) (d : go.IsDown t None m there.w)
+module _ {t : Table Kind} {known : Said} {m : Message} {content body : List ℕ}
+    {fields : List Field} {stopped : Option SplitFault} (there : IsDown known m content)
+    (d : go.IsDown t known m there.w)
     (copied : body ≡ content) (split : SplitsInto body fields stopped) where
   read_down : (r : Message) → report_by t fields stopped ≡ Ok r → r ≡ without_resend there.w
   read_down r read =
       let few = subst (λ (fs : List Field). AreFew fs) (sym d.gone.is) d.few in
-      let same = split_is body (down_content None m) fields stopped (copied ∙ there.bytes)
-      (few_again (down_content None m) few) split in
+      let same = split_is body (down_content known m) fields stopped (copied ∙ there.bytes)
+      (few_again (down_content known m) few) split in
       let e = sym read ∙ (λ i. report_by t (same.0 i) (same.1 i)) ∙ d.gone.again in
       cc
 
@@ -192,7 +200,7 @@ module _ (msg : Report50) (c : IsComplete report_table (report_says msg)) where
       ∙ ap (λ (x : Message). Ok x) (sym put)
 
   module _ {text body : List ℕ} {fields : List Field} {stopped : Option SplitFault}
-      (there : IsDown b text) (copied : body ≡ text) (split : SplitsInto body fields stopped)
+      (there : IsDown None b text) (copied : body ≡ text) (split : SplitsInto body fields stopped)
       (r : Report50) (read : report_by report_table44 fields stopped ≡ Ok (said44.report_says r))
       (x : Report50) (is : x ≡ with_parties msg r) where
     pub report_down : down_message None (report_says msg) ≡ Ok (said44.report_says x)
@@ -216,61 +224,17 @@ typed_9 = record {
   clear = λ h. refl;
 }
 
--- what a row says beside some fields it says beside others
-module _ {f g : List Field} {tag : ℕ} {kind : ValueKind} {said : Said} where
-  needed_beside : IsSaid judge f (row Required tag kind) said
-      → IsSaid judge g (row Required tag kind) said
-  needed_beside h = required_said g tag (Value kind) said (h.needed refl)
-      (same_value f g kind said h.spelled) h.clear
-
-  said_beside : IsSaid judge f (row Optional tag kind) said
-      → IsSaid judge g (row Optional tag kind) said
-  said_beside h =
-      optional_said g tag (Value kind) said (same_value f g kind said h.spelled) h.clear
-
-module _ (msg : CancelReject50) where
-  -- it, where it says this id of its order
-  abbrev of : Said → CancelReject50
-  of orig = record msg { orig_id = orig }
-
-  -- its content and the id that is known
-  abbrev content_of : (known orig : Said) → Message
-  content_of known orig = cancel_reject_says (once (named known (of orig)))
-
-  named_sound : (known orig : Said) → IfSome known IsId
-      → IsSound judge cancel_reject_table (cancel_reject_says (of orig))
-      → IsSound judge cancel_reject_table (content_of known orig)
-  named_sound (Some known) None id s =
-      let i = s.items in
-      let fields = content cancel_reject_table (content_of (Some known) None) in
-      record {
-        letter = refl;
-        places = refl;
-        counts = refl;
-        items = needed_beside i.0 & said_beside i.1.0 & needed_beside i.1.1.0
-            & optional_said fields 41 (Value Id) (Some known)
-            (same_value [] fields Id (Some known) id.0) id.1
-            & needed_beside i.1.1.1.1.0 & said_beside i.1.1.1.1.1.0
-            & said_beside i.1.1.1.1.1.1.0 & needed_beside i.1.1.1.1.1.1.1.0
-            & said_beside i.1.1.1.1.1.1.1.1.0 & said_beside i.1.1.1.1.1.1.1.1.1.0 & tt;
-      }
-  named_sound None None id s =
-      record { letter = refl; places = refl; counts = refl; items = s.items }
-  named_sound known (Some said) id s =
-      record { letter = refl; places = refl; counts = refl; items = s.items }
-
-  -- the id that is known goes down as one that was said
-  named_goes : (known orig : Said) → down_message None (cancel_reject_says (named known (of orig)))
-      ≡ down_message known (cancel_reject_says (of orig))
-  unfolding first_of
-  named_goes known (Some said) = refl
-  named_goes None None = refl
-  named_goes (Some known) None = refl
-
 -- a cancel reject as a body
 module _ (msg : CancelReject50) where
   abbrev once_said : Message
   once_said = cancel_reject_says (once msg)
+
+  pub once_complete : IsComplete cancel_reject_table (cancel_reject_says msg)
+      → IsComplete cancel_reject_table once_said
+  once_complete c = record {
+    sound = record { letter = refl; places = refl; counts = refl; items = c.sound.items };
+    month = refl;
+  }
 
   pub reject_said : IsComplete cancel_reject_table once_said → {none first body : List ℕ}
       → none ≡ [] → first ≡ none ++ field_bytes (35, codes "9")
@@ -289,28 +253,25 @@ module _ (msg : CancelReject50) where
 module _ (known : Said) (msg : CancelReject50) (id : IfSome known IsId)
     (c : IsComplete cancel_reject_table (cancel_reject_says msg)) where
   abbrev n : Message
-  n = cancel_reject_says (named known msg)
+  n = cancel_reject_says msg
 
   abbrev q : Message
-  q = cancel_reject_says (once (named known msg))
-
-  pub named_complete : IsComplete cancel_reject_table q
-  named_complete = record { sound = named_sound msg known msg.orig_id id c.sound; month = refl }
+  q = cancel_reject_says (once msg)
 
   abbrev all : List Rule
-  all = down_rules (By (Else 41 None))
+  all = down_rules (By (Else 41 known))
 
-  pub reject_lacks : (lack : Lack) → IsLackOf (down_message None q) lack
-      → IsLackOf (down_message known (cancel_reject_says msg)) lack
+  pub reject_lacks : (lack : Lack) → IsLackOf (down_message known q) lack
+      → IsLackOf (down_message known n) lack
   unfolding first_of
-  reject_lacks = lack_of (λ tag h. sym (named_goes msg known msg.orig_id)
-      ∙ same_lack (lack_by kinds all q) (by_rules kinds all q) (by_rules kinds all n) tag h)
+  reject_lacks = lack_of (same_lack (lack_by kinds all q) (by_rules kinds all q)
+      (by_rules kinds all n))
 
   -- ---- and what goes down of it
 
-  by_resend : (w : Message) (r : CancelReject44) → down_message None q ≡ Ok w
+  by_resend : (w : Message) (r : CancelReject44) → down_message known q ≡ Ok w
       → said44.cancel_reject_says r ≡ without_resend w
-      → down_message None n ≡ Ok (said44.cancel_reject_says (record r { resend = msg.resend }))
+      → down_message known n ≡ Ok (said44.cancel_reject_says (record r { resend = msg.resend }))
   unfolding first_of
   by_resend w r goes is =
       let d = not_lacking (lack_by kinds all q) (by_rules kinds all q) w goes in
@@ -320,16 +281,16 @@ module _ (known : Said) (msg : CancelReject50) (id : IfSome known IsId)
       ∙ ap (λ (x : Message). Ok x) (sym put)
 
   module _ {text body : List ℕ} {fields : List Field} {stopped : Option SplitFault}
-      (there : IsDown q text) (copied : body ≡ text) (split : SplitsInto body fields stopped)
+      (there : IsDown known q text) (copied : body ≡ text) (split : SplitsInto body fields stopped)
       (r : CancelReject44)
       (read : report_by reject_table44 fields stopped ≡ Ok (said44.cancel_reject_says r)) where
-    pub reject_down : down_message known (cancel_reject_says msg)
+    pub reject_down : down_message known n
         ≡ Ok (said44.cancel_reject_says (record r { resend = msg.resend }))
     reject_down =
-        let d = reject_goes_down None tt q there.w named_complete there.goes in
-        sym (named_goes msg known msg.orig_id) ∙ by_resend there.w r there.goes
+        let d = reject_goes_down known id q there.w (once_complete msg c) there.goes in
+        by_resend there.w r there.goes
         (read_down {t = reject_table44} there d copied split (said44.cancel_reject_says r) read)
 
-    pub reject_stands : StandsDown known (cancel_reject_says msg)
+    pub reject_stands : StandsDown known n
         (said44.cancel_reject_says (record r { resend = msg.resend }))
-    reject_stands = go_down known id (cancel_reject_says msg) _ (Rejects50 c) reject_down
+    reject_stands = go_down known id n _ (Rejects50 c) reject_down

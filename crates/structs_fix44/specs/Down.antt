@@ -3,9 +3,7 @@ use Rattle.std.specs.Prelude.{◌≡◌, ℕ, List, None, Ok}
 use Rattle.field_groups.specs.Field.{Field, body_of}
 use Rattle.field_groups.specs.Fields.{SplitsInto}
 use Rattle.message_tables.specs.Tables.{Message, Said}
-use Rattle.order_meaning.specs.Report.{or_known}
 use Rattle.party_translate.specs.Parties.{parties_of, three_of}
-use Rattle.reports_fix50.specs.declared.reports.CancelReject50.{CancelReject50}
 use Rattle.reports_fix50.specs.declared.reports.Report50.{Report50}
 use Rattle.translation.specs.Bodies.{Direction}
 use Rattle.translation.specs.Header.{type_of}
@@ -18,16 +16,12 @@ pub record Says (d : Direction) (body : List ℕ) (m : Message) : Type 0 where
   pub again : SplitsInto (body_of fields) fields None
   pub reads : d.source (type_of fields) fields None ≡ Ok m
 
--- the content of what goes down of a report, with no order known besides
-pub record IsDown (m : Message) (content : List ℕ) : Type 0 where
+-- the content of what goes down of a report, where this id of its order is known
+pub record IsDown (known : Said) (m : Message) (content : List ℕ) : Type 0 where
   pub w : Message
-  pub goes : down_message None m ≡ Ok w
-  pub bytes : content ≡ body_of (down_content None m)
+  pub goes : down_message known m ≡ Ok w
+  pub bytes : content ≡ body_of (down_content known m)
 
 -- a report of FIX 4.4 with what its content does not have
 abbrev pub with_parties : Report50 → Report50 → Report50
 with_parties m r = record r { resend = m.resend; parties = parties_of (three_of m.parties) }
-
--- a cancel reject that names its order by the id that is known, where it does not say one
-abbrev pub named : Said → CancelReject50 → CancelReject50
-named known m = record m { orig_id = or_known m.orig_id known }

@@ -3,7 +3,6 @@
 ghost use Rattle.std.specs.Prelude.{◌≡◌, None, Ok, IfErr, IfOk, IfSome};
 ghost use Rattle.std.specs.Option.{option_map};
 ghost use Rattle.message_tables.specs.Tables.{Message};
-ghost use Rattle.order_meaning.specs.Report.{or_known};
 ghost use Rattle.reports_fix44.specs.Readable as readable44;
 ghost use Rattle.reports_fix44.specs.Said as said44;
 ghost use Rattle.reports_fix50.specs.Message.{cancel_reject_table, report_table};
@@ -15,7 +14,7 @@ ghost use Rattle.sound_laws.specs.Complete.{IsComplete};
 ghost use Rattle.translate_fix44.specs.Laws.{StandsDown};
 ghost use Rattle.translate_fix44.specs.Rules.{down_message};
 ghost use Rattle.translate_fix44.specs.Translation.{down};
-ghost use Rattle.structs_fix44.specs.Down.{IsDown, Says, named, with_parties};
+ghost use Rattle.structs_fix44.specs.Down.{IsDown, Says, with_parties};
 ghost use Rattle.structs_fix44.specs.Up.{IsLackOf};
 
 use field_groups::{put_field, split};
@@ -25,21 +24,21 @@ use reports_fix44::{CancelReject44, Report44, read_cancel_reject, read_report};
 use reports_fix50::{
     CancelReject50, Report50, ReportTables, write_cancel_reject, write_without_parties,
 };
-use row_values::{bytes_of, owned};
 use std::alloc::{AllocError, Global};
 use translate_fix44::put_report;
 use translation::TranslateError;
 
-/// The content of FIX 4.4 of the report of FIX 5.0 SP2 that a body says.
-fn content_down(alloc: Global, body: &[u8]) -> Result<Vec<u8>, Lack>
+/// The content of FIX 4.4 of the report of FIX 5.0 SP2 that a body says, where this id is known of
+/// its order.
+fn content_down(alloc: Global, body: &[u8], known: Option<&[u8]>) -> Result<Vec<u8>, Lack>
     ensures ok { IfOk result (λ content. (m : Message) → Says down body.now m
-        → IsDown m content.items) }
+        → IsDown (option_map (λ id. id.now) known.entry) m content.items) }
     ensures lack { IfErr result (λ lack. (m : Message) → Says down body.now m
-        → IsLackOf (down_message None m) lack) }
+        → IsLackOf (down_message (option_map (λ id. id.now) known.entry) m) lack) }
 {
     let split = split(alloc, body)?;
     let mut content = Vec::new(alloc);
-    match put_report(alloc, &ReportTables::new(), &split, &mut content) {
+    match put_report(alloc, &ReportTables::new(), &split, known, &mut content) {
         Ok(()) => Ok(content),
         Err(TranslateError::Lacking(tag)) => Err(Lack::Tag(tag)),
         // What is written is read again, so that memory alone can be wanted.
@@ -94,7 +93,7 @@ pub fn down_report44(alloc: Global, msg: &Report50) -> Result<Report44, Lack>
     ensures lack { IfErr result (IsLackOf (down_message None (report_says msg.now))) }
 {
     let body = report_body(alloc, msg)?;
-    let content = content_down(alloc, &body)?;
+    let content = content_down(alloc, &body, None)?;
     let split = split(alloc, &content)?;
     match read_report(alloc, &split) {
         Ok(report) => Ok(with_parties(alloc, msg, report)?),
@@ -104,43 +103,6 @@ pub fn down_report44(alloc: Global, msg: &Report50) -> Result<Report44, Lack>
 }
 
 // ---- a cancel reject
-
-/// The id that a cancel reject says of its order, or else the one that is known.
-fn original<'m>(msg: &'m CancelReject50, known: Option<&'m [u8]>) -> Option<&'m [u8]>
-    ensures { option_map (λ id. id.now) result
-        ≡ or_known msg.now.orig_id (option_map (λ id. id.now) known.entry) }
-{
-    match &msg.orig_id {
-        Some(said) => Some(said.as_slice()),
-        None => known,
-    }
-}
-
-/// A cancel reject that names its order by the id that is known, where it does not say one.
-fn named(
-    alloc: Global,
-    msg: &CancelReject50,
-    known: Option<&[u8]>,
-) -> Result<CancelReject50, AllocError>
-    requires { IsReadableCancelReject msg.now }
-    ensures is { IfOk result (λ written.
-        written ≡ named (option_map (λ id. id.now) known.entry) msg.now) }
-    ensures readable { IfOk result IsReadableCancelReject }
-{
-    Ok(CancelReject50 {
-        resend: msg.resend,
-        order_id: msg.order_id.duplicate()?,
-        secondary_id: owned(alloc, bytes_of(&msg.secondary_id))?,
-        cl_ord_id: msg.cl_ord_id.duplicate()?,
-        orig_id: owned(alloc, original(msg, known))?,
-        ord_status: msg.ord_status,
-        account: owned(alloc, bytes_of(&msg.account))?,
-        transact_time: msg.transact_time,
-        response_to: msg.response_to,
-        cxl_reason: msg.cxl_reason,
-        text: owned(alloc, bytes_of(&msg.text))?,
-    })
-}
 
 /// A body that says what a cancel reject says.
 fn reject_body(alloc: Global, msg: &CancelReject50) -> Result<Vec<u8>, AllocError>
@@ -152,27 +114,6 @@ fn reject_body(alloc: Global, msg: &CancelReject50) -> Result<Vec<u8>, AllocErro
     put_field(&mut body, 35, b"9")?;
     write_cancel_reject(msg, &mut body)?;
     Ok(body)
-}
-
-/// Drops a cancel reject by a call. In line, each of its texts would be a case of its caller.
-fn let_go(_msg: CancelReject50) {}
-
-/// A body that says what a cancel reject says, and the id that is known, where it does not say one.
-fn named_body(
-    alloc: Global,
-    msg: &CancelReject50,
-    known: Option<&[u8]>,
-) -> Result<Vec<u8>, AllocError>
-    requires sound { IsComplete cancel_reject_table (cancel_reject_says msg.now) }
-    requires readable { IsReadableCancelReject msg.now }
-    requires known { IfSome (option_map (λ id. id.now) known) IsId }
-    ensures { IfOk result (λ body. Says down body.items
-        (cancel_reject_says (once (named (option_map (λ id. id.now) known.entry) msg.now)))) }
-{
-    let named = named(alloc, msg, known)?;
-    let body = reject_body(alloc, &named);
-    let_go(named);
-    body
 }
 
 /// The cancel reject of FIX 4.4 that stands for a sound one of FIX 5.0 SP2, with the id `orig` that
@@ -198,8 +139,8 @@ pub fn down_cancel_reject44(
     ensures lack { IfErr result (IsLackOf
         (down_message (option_map (λ id. id.now) orig.entry) (cancel_reject_says msg.now))) }
 {
-    let body = named_body(alloc, msg, orig)?;
-    let content = content_down(alloc, &body)?;
+    let body = reject_body(alloc, msg)?;
+    let content = content_down(alloc, &body, orig)?;
     let split = split(alloc, &content)?;
     match read_cancel_reject(alloc, &split) {
         Ok(reject) => Ok(CancelReject44 {

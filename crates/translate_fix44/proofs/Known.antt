@@ -46,7 +46,7 @@ use Rattle.translate_fix44.specs.declared.rules.Own.{Own as CodeOwn}
 use Rattle.translate_fix44.specs.declared.rules.Own.TheVariants as rules
 use Rattle.translate_fix44.specs.CodeRules.{Source, code, firm_of, has_terms, lacks, names_order}
 use Rattle.translate_fix44.specs.CodeRules.{reading, rule_of, writes, has_role as placed}
-use Rattle.translate_fix44.specs.CodeRules.{lacks_role_in}
+use Rattle.translate_fix44.specs.CodeRules.{known_of, lacks_role_in}
 use Rattle.translate_fix44.specs.Rules.{else_said, kinds, lacks_close, party, turned_code, has_role}
 use Rattle.translate_fix44.specs.Rules.{is_role, lacks_role}
 use Rattle.dict_fix44.specs.Requests.{asked44}
@@ -79,21 +79,19 @@ never : (there : Bool) (said : Said) (known : _)
 never true None known = refl
 never there said known = refl
 
-or_none : (said : Said) → said ≡ or_known said None
-or_none None = refl
-or_none (Some text) = refl
-
-has_to : (there : Bool) (said : Said) → there ≡ true → (said ≡ else_said there said None)
-    × (lack_if (not (is_some said)) 41 ≡ lack_if (there && not (is_some (or_known said None))) 41)
-has_to true said h = (or_none said, λ i. lack_if (not (is_some (or_none said i))) 41)
-has_to false said h = absurd cc
+has_to : (there : Bool) (said known : Said) → there ≡ true
+    → (or_known said known ≡ else_said there said known)
+    × (lack_if (not (is_some (or_known said known))) 41
+    ≡ lack_if (there && not (is_some (or_known said known))) 41)
+has_to true said known h = (refl, refl)
+has_to false said known h = absurd cc
 
 module _ (s : Source) (m : Message) (known : IsKnown s m (table_of s)) where
   abbrev table : Table Kind
   table = table_of s
 
   own_text : (tag : ℕ) → Has is_month table (OwnText tag) → stands s tag ≡ at m tag
-  own_text = text code s m known.said
+  own_text = text (code (known_of s)) s m known.said
 
   -- a place is there where a row says it
   there : (tag : ℕ) → has_place (outline m) (Tag tag) ≡ has_row table tag
@@ -102,34 +100,35 @@ module _ (s : Source) (m : Message) (known : IsKnown s m (table_of s)) where
 
   -- ONE CLAUSE FOR EACH KIND
   own_written : (rule : CodeOwn) → IsRead is_month table (reading table) rule
-      → writes s rule ≡ rule_fields kinds m (rule_of rule)
+      → writes s rule ≡ rule_fields kinds m (rule_of (known_of s) rule)
   own_written rules.Month has =
-      moved code s m 200 (known.order (ap (λ (f : Facts). f.2) has.0)).month
+      moved (code (known_of s)) s m 200 (known.order (ap (λ (f : Facts). f.2) has.0)).month
   own_written rules.HandlInst has =
       let is = known.terms ∙ row_if (has_terms table) (has_row table 21)
       (ap (λ (f : Facts). f.2) has.1.0) ∙ sym (there 21) in
       λ i. cell_fields (Tag 21, else_said (is i) (own_text 21 has.0 i) (Some (code_text 49)))
   own_written rules.Original has =
-      moved code s m 41 (own_text 41 has.0 ∙ (has_to _ (at m 41) (there 41
+      moved (code (known_of s)) s m 41 (ap (λ (x : Said). or_known x (known_of s))
+      (own_text 41 has.0) ∙ (has_to _ (at m 41) (known_of s) (there 41
       ∙ ap (λ (f : Facts). f.2) has.1.0)).0)
   own_written (rules.Turned tag listed turns) has =
       λ i. cell_fields (Tag tag, option_map code_text (turned_code turns (own_text tag has.0 i)))
-  own_written rules.AtClose has = moved code s m 59 (own_text 59 has.1.0)
+  own_written rules.AtClose has = moved (code (known_of s)) s m 59 (own_text 59 has.1.0)
   own_written rules.Parties has =
       let order = known.order (ap (λ (f : Facts). f.2) has.0) in
       λ i. group_fields 453 (party_lines (order.client i) (order.broker i) (order.firm i))
   own_written (rules.PartyOf role) has = refl
-  own_written (rules.Within tag last other) has = moved code s m tag
+  own_written (rules.Within tag last other) has = moved (code (known_of s)) s m tag
       (within_said table s.fields.now m known.said tag last other has.0)
   own_written (rules.Told is_report) has =
-      moved code s m 58 (told_said table s.fields.now m known.said is_report has)
+      moved (code (known_of s)) s m 58 (told_said table s.fields.now m known.said is_report has)
 
   own_lacked : (rule : CodeOwn) → IsRead is_month table (reading table) rule
-      → lacks s rule ≡ kinds.lack m (rule_of rule)
+      → lacks s rule ≡ kinds.lack m (rule_of (known_of s) rule)
   own_lacked rules.HandlInst has = never (has_place (outline m) (Tag 21)) (at m 21) (code_text 49)
   own_lacked rules.Original has =
-      (λ i. lack_if (not (is_some (own_text 41 has.0 i))) 41) ∙ (has_to _ (at m 41) (there 41
-      ∙ ap (λ (f : Facts). f.2) has.1.0)).1
+      (λ i. lack_if (not (is_some (or_known (own_text 41 has.0 i) (known_of s)))) 41)
+      ∙ (has_to _ (at m 41) (known_of s) (there 41 ∙ ap (λ (f : Facts). f.2) has.1.0)).1
   own_lacked (rules.Turned tag listed turns) has =
       λ i. lack_if (is_unlisted listed.now (turned_code turns (own_text tag has.0 i))) tag
   own_lacked rules.AtClose has = λ i. lack_if (lacks_close (own_text 40 has.0 i >>= code_of)
@@ -137,7 +136,7 @@ module _ (s : Source) (m : Message) (known : IsKnown s m (table_of s)) where
   own_lacked rule has = refl
 
   pub own_goes : (rule : CodeOwn) → IsRead is_month table (reading table) rule
-      → Goes code s m (carried.By rule)
+      → Goes (code (known_of s)) s m (carried.By rule)
   own_goes rule has = record { written = own_written rule has; lacked = own_lacked rule has }
 
 -- ---- the lines of parties whose role has no place in a message are those that the code finds

@@ -11,7 +11,7 @@ use Rattle.field_groups.specs.Field.{Field, body_of}
 use Rattle.field_groups.specs.declared.fault.SplitFault.{SplitFault}
 use Rattle.field_groups.specs.Fields.{SplitsInto}
 use Rattle.message_tables.specs.FirstFault.{first_fault, message_in}
-use Rattle.message_tables.specs.Tables.{Message, Table, first_of, is_one_of, or_else}
+use Rattle.message_tables.specs.Tables.{Message, Said, Table, first_of, is_one_of, or_else}
 use Rattle.order_meaning.specs.Request.{RequestKind, New}
 use Rattle.order_meaning.specs.declared.fault.Lack.{Lack}
 use Rattle.order_meaning.specs.declared.fault.Lack.TheVariants as lacking
@@ -49,10 +49,11 @@ use Rattle.report_translate.specs.Reading.{report_message}
 use Rattle.report_translate.specs.Refusals.{IsFaultyRefusal, IsGoodRefusal}
 use Rattle.report_translate.proofs.GoodFields.{fault_is, good_is, read_8, read_9}
 use Rattle.translate_fix44.specs.declared.rules.Own.{Own as CodeOwn}
-use Rattle.translate_fix44.specs.CodeRules.{Source, code, has_terms, lacks, lacks_role_in, writes}
+use Rattle.translate_fix44.specs.CodeRules.{Source, code, has_terms, known_of, lacks, lacks_role_in}
+use Rattle.translate_fix44.specs.CodeRules.{writes}
 use Rattle.translate_fix44.specs.Put.{IsRead, IsReport, Lacks, message, IsAsked, IsGoodBy}
 use Rattle.translate_fix44.specs.Rules.{Rule, kinds, lacks_role, up_lack, up_rules}
-use Rattle.translate_fix44.specs.Translation.{up, down}
+use Rattle.translate_fix44.specs.Translation.{up, down_by}
 use Rattle.translate_fix44.proofs.Known.{IsKnown, own_goes, IsKnownRequest, known_request}
 use Rattle.translate_fix44.proofs.Known.{roles_lack}
 use Rattle.translate_fix44.proofs.Tables.{are_kinds, lacks_none}
@@ -84,15 +85,15 @@ module _ (fields : List Field) (d : Direction) (m : Message)
 -- ---- rules of the code for a table
 
 module _ (s : Source) (t : Table Kind) (its : table_of s ≡ t) (m : Message) (known : IsKnown s m t)
-    (all : List Rule) (rules : List (CodeRule CodeOwn)) (for : AreFor code t all rules) where
-  here : IsKnown s m (table_of s) × AreFor code (table_of s) all rules
+    (all : List Rule) (rules : List (CodeRule CodeOwn)) (for : AreFor (code (known_of s)) t all rules) where
+  here : IsKnown s m (table_of s) × AreFor (code (known_of s)) (table_of s) all rules
   here = rw its (known, for)
 
   content_is : flat_map (all_write writes s) rules ≡ content_by kinds all m
-  content_is = all_written code s m here.0.said (own_goes s m here.0) are_kinds all rules here.1
+  content_is = all_written (code (known_of s)) s m here.0.said (own_goes s m here.0) are_kinds all rules here.1
 
   pub lack_is : first_of (lacked lacks s) rules ≡ lack_by kinds all m
-  lack_is = all_lacked code s m here.0.said (own_goes s m here.0) are_kinds all rules here.1
+  lack_is = all_lacked (code (known_of s)) s m here.0.said (own_goes s m here.0) are_kinds all rules here.1
       (lacks_none m)
 
   -- in a direction in which the message becomes what all rules make of it, or has their lack
@@ -154,9 +155,10 @@ module _ (s : Source) (has : IsRead s) where
       has.are is.lines
 
   module _ (rules : List (CodeRule CodeOwn))
-      (for : (kind : RequestKind) → AreFor code (asked44 kind) up_rules rules) where
-    are_for : AreFor code (table_of s) up_rules rules
-    are_for = rw has.asked.its (for has.asked.kind)
+      (for : (known : Said) (kind : RequestKind)
+      → AreFor (code known) (asked44 kind) up_rules rules) where
+    are_for : AreFor (code (known_of s)) (table_of s) up_rules rules
+    are_for = rw has.asked.its (for (known_of s) has.asked.kind)
 
     -- the lack is that of the rules, or else that of the roles
     pub lack_told : (of_rules of_roles : Option ℕ) → of_rules ≡ first_of (lacked lacks s) rules
@@ -267,14 +269,14 @@ pub ruleset of_source = (up_put, up_stays, is_gone, is_lacking)
 -- ---- a report
 
 module _ (fields : List Field) (stopped : Option SplitFault) (msg_type : List ℕ)
-    (same : msg_type ≡ type_of fields) where
+    (same : msg_type ≡ type_of fields) (known : Said) where
   is_clean : (r : Result (Bor (List Field)) Fault)
       → IsCleanIf (report_table_of msg_type) fields stopped r
       → IsCleanIf (report_table_of (type_of fields)) fields stopped r
   is_clean r = subst (λ (t : List ℕ). IsCleanIf (report_table_of t) fields stopped r) same
 
   pub told_fault : (fault : Fault) → IsCleanIf (report_table_of msg_type) fields stopped (Err fault)
-      → StayBack down fields stopped (error_of_fault fault)
+      → StayBack (down_by known) fields stopped (error_of_fault fault)
   told_fault faults.NoMemory h = tt
   told_fault fault h = fault_is fields stopped fault (is_clean (Err fault) h)
 
@@ -286,13 +288,14 @@ module _ (fields : List Field) (stopped : Option SplitFault) (msg_type : List �
     pub told_is : IsReport good.now
     told_is = rw are.same are.none
 
-    pub told_put : (before after : List ℕ) → Appends down good.now None before after
-        → Appends down fields stopped before after
-    told_put = appends_of down fields good.now stopped are.same are.whole (Ok tt)
+    pub told_put : (before after : List ℕ) → Appends (down_by known) good.now None before after
+        → Appends (down_by known) fields stopped before after
+    told_put = appends_of (down_by known) fields good.now stopped are.same are.whole (Ok tt)
 
-    pub told_stays : (error : TranslateError) → StayBack down good.now None error
-        → StayBack down fields stopped error
-    told_stays error = stays_of down fields good.now stopped are.same are.whole (Err error)
+    pub told_stays : (error : TranslateError) → StayBack (down_by known) good.now None error
+        → StayBack (down_by known) fields stopped error
+    told_stays error =
+        stays_of (down_by known) fields good.now stopped are.same are.whole (Err error)
 
 pub ruleset of_report = (told_fault, told_is, told_put, told_stays)
 

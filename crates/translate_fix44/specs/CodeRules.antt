@@ -12,6 +12,7 @@ use Rattle.message_tables.specs.Tables.{Said, Table, Tag, ◌>>=◌, code_of, is
 use Rattle.value_kinds.specs.ValueKind.{code_text}
 use Rattle.row_values.specs.declared.kinds.Kind.{Kind as CodeKind}
 use Rattle.row_values.specs.Kinds.{Kind}
+use Rattle.order_meaning.specs.Report.{or_known}
 use Rattle.order_meaning.specs.declared.party.PartyLine.{PartyLine}
 use Rattle.rows_fix50.specs.Meaning.{id_of}
 use Rattle.reports_fix50.specs.Sense.{telling}
@@ -30,17 +31,17 @@ use Rattle.translate_fix44.specs.declared.writing.Besides.{Besides}
 use Rattle.translate_fix44.specs.Rules.{Own, Rule, Else, Turned, AtClose, Parties, PartyOf, Within}
 use Rattle.translate_fix44.specs.Rules.{Told, else_said, lacks_close, own_kinds, turn}
 
--- the rule that a kind of the code is, with no original id known
-abbrev pub rule_of : CodeOwn → Rule
-rule_of rules.Month = Same 200
-rule_of rules.HandlInst = By (Else 21 (Some (codes "1")))
-rule_of rules.Original = By (Else 41 None)
-rule_of (rules.Turned tag listed turns) = By (Turned tag listed.now turns)
-rule_of rules.AtClose = By AtClose
-rule_of rules.Parties = By Parties
-rule_of (rules.PartyOf role) = By (PartyOf (who_of role))
-rule_of (rules.Within tag last other) = By (Within tag last (code_text other))
-rule_of (rules.Told is_report) = By Told
+-- the rule that a kind of the code is, where this original id is known
+abbrev pub rule_of : Said → CodeOwn → Rule
+rule_of known rules.Month = Same 200
+rule_of known rules.HandlInst = By (Else 21 (Some (codes "1")))
+rule_of known rules.Original = By (Else 41 known)
+rule_of known (rules.Turned tag listed turns) = By (Turned tag listed.now turns)
+rule_of known rules.AtClose = By AtClose
+rule_of known rules.Parties = By Parties
+rule_of known (rules.PartyOf role) = By (PartyOf (who_of role))
+rule_of known (rules.Within tag last other) = By (Within tag last (code_text other))
+rule_of known (rules.Told is_report) = By Told
 
 -- ---- what the code reads by a rule
 
@@ -69,14 +70,18 @@ reading table (rules.Told is_report) = told_reading table is_report
 abbrev pub Source : Type 0
 Source = ReadSource Besides
 
-abbrev pub source_of : Bor (List Field) → Bor (CodeTable CodeKind) → List PartyLine → Bool → Source
-source_of fields table parties terms = record {
+abbrev pub source_of : Bor (List Field) → Bor (CodeTable CodeKind) → List PartyLine → Bool
+    → Option (Bor (List ℕ)) → Source
+source_of fields table parties terms known = record {
   fields = fields;
   table = table;
-  besides = record { parties = parties; has_terms = terms };
+  besides = record { parties = parties; has_terms = terms; known = known };
 }
 
 module _ (s : Source) where
+  abbrev pub known_of : Said
+  known_of = option_map (λ id. id.now) s.besides.known
+
   -- the code that the value of a tag is
   abbrev pub coded : ℕ → Option ℕ
   coded tag = stands s tag >>= code_of
@@ -90,7 +95,7 @@ module _ (s : Source) where
   writes rules.Month = cell_fields (Tag 200, month s.fields.now)
   writes rules.HandlInst =
       cell_fields (Tag 21, else_said s.besides.has_terms (stands s 21) (Some (codes "1")))
-  writes rules.Original = cell_fields (Tag 41, stands s 41)
+  writes rules.Original = cell_fields (Tag 41, or_known (stands s 41) known_of)
   writes (rules.Turned tag listed turns) =
       cell_fields (Tag tag, option_map code_text (option_map (turn turns) (coded tag)))
   writes rules.AtClose = cell_fields (Tag 59, stands s 59)
@@ -107,15 +112,15 @@ module _ (s : Source) where
   lacks (rules.Turned tag listed turns) =
       lack_if (is_unlisted listed.now (option_map (turn turns) (coded tag))) tag
   lacks rules.AtClose = lack_if (lacks_close (coded 40) (coded 59)) 59
-  lacks rules.Original = lack_if (not (is_some (stands s 41))) 41
+  lacks rules.Original = lack_if (not (is_some (or_known (stands s 41) known_of))) 41
   lacks rule = None
 
--- BOTH DIRECTIONS IN THE CODE
-abbrev pub code : Code Besides CodeOwn Own
-code = record {
+-- BOTH DIRECTIONS IN THE CODE, where this original id is known
+abbrev pub code : Said → Code Besides CodeOwn Own
+code known = record {
   kinds = own_kinds;
   apart = is_month;
-  rule = rule_of;
+  rule = rule_of known;
   reading = reading;
   writes = writes;
   lacks = lacks;

@@ -2,7 +2,7 @@
 use Rattle.std.specs.Prelude.{◌≡◌, ℕ, List, Option, None, Ok}
 use Rattle.frame_grammar.specs.declared.frame.Kind.TheVariants.{Fix44, Fixt11}
 use Rattle.field_groups.specs.Field.{Field}
-use Rattle.message_tables.specs.Tables.{Message}
+use Rattle.message_tables.specs.Tables.{Message, Said}
 use Rattle.order_meaning.specs.Book.{Book}
 use Rattle.dict_fix44.specs.Message.{report_message44, request_message44}
 use Rattle.dict_fix44.specs.Sense.{report44, request44}
@@ -56,6 +56,11 @@ down = record {
   content = λ m w. down_content None m;
   Kept = KeepsReport;
 }
+
+-- and where this id of its order is known besides
+abbrev pub down_by : Said → Direction
+down_by known =
+    record down { goes = down_message known; content = λ m w. down_content known m }
 
 abbrev pub direction : Way → Direction
 direction Up = up

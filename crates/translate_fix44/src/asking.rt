@@ -31,7 +31,7 @@ fn read<'f, 'a>(
     alloc: Global,
     table: &'static Table<Kind>,
     fields: &'f Fields<'a>,
-) -> Result<Source<'f, 'a>, AllocError>
+) -> Result<Source<'f, 'static, 'a>, AllocError>
     requires { IsAsked (code_table kind_of table.now) fields.now }
     ensures read { IfOk result IsRead }
     ensures same { IfOk result (λ source. source.fields.now ≡ fields.now) }
@@ -41,7 +41,11 @@ fn read<'f, 'a>(
     Ok(Source {
         fields,
         table,
-        besides: Besides { parties, has_terms },
+        besides: Besides {
+            parties,
+            has_terms,
+            known: None,
+        },
     })
 }
 
@@ -56,7 +60,7 @@ pub(crate) fn good_request<'s, 'a>(
     alloc: Global,
     tables: &RequestTables,
     split: &'s Split<'a>,
-) -> Result<Source<'s, 'a>, Fault>
+) -> Result<Source<'s, 'static, 'a>, Fault>
     ensures read { IfOk result IsRead }
     ensures same { IfOk result (λ source.
         (source.fields.now ≡ split.now.fields) × (split.now.fault ≡ None)) }

@@ -2,12 +2,13 @@
 //! 4.4, straight from the fields of a body.
 
 ghost use Rattle.std.specs.Prelude.{◌≡◌, IfErr, None, OnErr, OnOk};
+ghost use Rattle.std.specs.Option.{option_map};
 ghost use Rattle.rule_rows.specs.ByRules.{lack_if};
 ghost use Rattle.translation.specs.Going.{Appends};
 ghost use Rattle.translate_fix44.specs.CodeRules.{has_role, lacks_role_in};
 ghost use Rattle.translate_fix44.specs.Put.{IsRead, IsReport, Lacks, message};
 ghost use Rattle.translate_fix44.specs.Rules.{up_lack};
-ghost use Rattle.translate_fix44.specs.Translation.{down, up};
+ghost use Rattle.translate_fix44.specs.Translation.{down_by, up};
 
 use crate::rules::{reject_rules, report_rules, request_rules};
 use crate::writing::{Besides, Source};
@@ -34,7 +35,7 @@ fn lacks_role(terms: bool, lines: &[PartyLine]) -> bool
 }
 
 /// PartyRole(452), where a line is of a party whose role has no place.
-fn lack_of_roles(source: &Source<'_, '_>) -> Option<u32>
+fn lack_of_roles(source: &Source<'_, '_, '_>) -> Option<u32>
     ensures { result
         ≡ lack_if (lacks_role_in source.now.besides.has_terms source.now.besides.parties) 452 }
 {
@@ -47,7 +48,7 @@ fn lack_of_roles(source: &Source<'_, '_>) -> Option<u32>
 
 /// The tag of what FIX 5.0 SP2 cannot say of a request: OrdType(40), TimeInForce(59),
 /// OrderCapacity(528), and last PartyRole(452). It takes no memory.
-pub(crate) fn lack_up(source: &Source<'_, '_>) -> Option<u32>
+pub(crate) fn lack_up(source: &Source<'_, '_, '_>) -> Option<u32>
     requires { IsRead source.now }
     ensures { result ≡ up_lack (message source.now) }
 {
@@ -63,7 +64,7 @@ pub(crate) fn lack_up(source: &Source<'_, '_>) -> Option<u32>
 ///
 /// `Tag` exactly where FIX 5.0 SP2 cannot say what the field of this tag says, as [`lack_up`] has
 /// it; `NoMemory` for want of memory. What stood in `out` stays, and a part may stand behind it.
-pub(crate) fn put_up(source: &Source<'_, '_>, out: &mut Vec<u8>) -> Result<(), Lack>
+pub(crate) fn put_up(source: &Source<'_, '_, '_>, out: &mut Vec<u8>) -> Result<(), Lack>
     requires { IsRead source.now }
     ensures ok { OnOk result
         (Appends up source.now.fields.now None out.old.items out.new.items) }
@@ -81,12 +82,19 @@ pub(crate) fn put_up(source: &Source<'_, '_>, out: &mut Vec<u8>) -> Result<(), L
 /// # Errors
 ///
 /// `Tag(150)` exactly where the ExecType(150) of an execution report (8) has no counterpart;
-/// `Tag(41)` exactly where a cancel reject says no OrigClOrdID(41); `NoMemory` for want of memory.
-/// Then `out` is unchanged.
-pub(crate) fn put_down(alloc: Global, fields: &Fields<'_>, out: &mut Vec<u8>) -> Result<(), Lack>
+/// `Tag(41)` exactly where a cancel reject says no OrigClOrdID(41) and none is known; `NoMemory` for
+/// want of memory. Then `out` is unchanged.
+pub(crate) fn put_down(
+    alloc: Global,
+    fields: &Fields<'_>,
+    known: Option<&[u8]>,
+    out: &mut Vec<u8>,
+) -> Result<(), Lack>
     requires { IsReport fields.now }
-    ensures ok { OnOk result (Appends down fields.now None out.old.items out.new.items) }
-    ensures lack { IfErr result (Lacks down fields.now) }
+    ensures ok { OnOk result (Appends (down_by (option_map (λ id. id.now) known.entry))
+        fields.now None out.old.items out.new.items) }
+    ensures lack { IfErr result
+        (Lacks (down_by (option_map (λ id. id.now) known.entry)) fields.now) }
     ensures err { OnErr result (out.new.items ≡ out.old.items) }
 {
     if is_type(msg_type(fields), b'8') {
@@ -97,6 +105,7 @@ pub(crate) fn put_down(alloc: Global, fields: &Fields<'_>, out: &mut Vec<u8>) ->
             besides: Besides {
                 parties,
                 has_terms: true,
+                known,
             },
         };
         put_rules(&source, report_rules(), out)
@@ -107,6 +116,7 @@ pub(crate) fn put_down(alloc: Global, fields: &Fields<'_>, out: &mut Vec<u8>) ->
             besides: Besides {
                 parties: Lines::new(alloc),
                 has_terms: false,
+                known,
             },
         };
         put_rules(&source, reject_rules(), out)

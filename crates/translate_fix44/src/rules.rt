@@ -1,7 +1,7 @@
 //! The rules of both directions, as the code has them.
 
-ghost use Rattle.std.specs.Prelude.{◌≡◌, None};
-ghost use Rattle.message_tables.specs.Tables.{first_of};
+ghost use Rattle.std.specs.Prelude.{◌≡◌};
+ghost use Rattle.message_tables.specs.Tables.{Said, first_of};
 ghost use Rattle.order_meaning.specs.Request.{RequestKind};
 ghost use Rattle.reports_fix50.specs.Message.{cancel_reject_table, report_table};
 ghost use Rattle.rule_rows.specs.Rules.{By as Is};
@@ -22,7 +22,7 @@ pub(crate) enum Own {
     Month,
     /// HandlInst(21), which is 1 in an order that does not say it.
     HandlInst,
-    /// OrigClOrdID(41) of a cancel reject, which has to say it.
+    /// OrigClOrdID(41) of a cancel reject, which has to say it where none is known besides.
     Original,
     /// A code, or the one that it turns to, of these.
     Turned(u32, &'static [u8], Option<(u8, u8)>),
@@ -176,7 +176,8 @@ pub(crate) struct RequestRules {
 
 /// The rules of a request.
 pub(crate) fn request_rules() -> RequestRules
-    ensures all { (kind : RequestKind) → AreFor code (asked44 kind) up_rules result.all.now }
+    ensures all { (known : Said) (kind : RequestKind)
+        → AreFor (code known) (asked44 kind) up_rules result.all.now }
     ensures lacking { (s : Source)
         → first_of (lacked lacks s) result.lacking.now ≡ first_of (lacked lacks s) result.all.now }
 {
@@ -188,14 +189,16 @@ pub(crate) fn request_rules() -> RequestRules
 
 /// The rules of an execution report.
 pub(crate) fn report_rules() -> &'static [Rule]
-    ensures { AreFor code report_table (down_rules (rules.Same 41)) result.now }
+    ensures { (known : Said) → AreFor (code known) report_table (down_rules (rules.Same 41))
+        result.now }
 {
     &REPORT_RULES
 }
 
 /// The rules of a cancel reject.
 pub(crate) fn reject_rules() -> &'static [Rule]
-    ensures { AreFor code cancel_reject_table (down_rules (Is (rules.Else 41 None))) result.now }
+    ensures { (known : Said) → AreFor (code known) cancel_reject_table
+        (down_rules (Is (rules.Else 41 known))) result.now }
 {
     &REJECT_RULES
 }

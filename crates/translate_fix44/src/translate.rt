@@ -1,6 +1,7 @@
 //! Translating bodies from FIX 4.4 and to it.
 
 ghost use Rattle.std.specs.Prelude.{◌≡◌, ◌++◌, ℕ, List, IfErr, None, OnErr, OnOk};
+ghost use Rattle.std.specs.Option.{option_map};
 ghost use Rattle.field_groups.specs.Field.{Field};
 ghost use Rattle.first_faults.specs.Gives.{IsCleanIf};
 ghost use Rattle.dict_fix44.specs.Message.{refusal44, refusal_table_of};
@@ -8,7 +9,7 @@ ghost use Rattle.translation.specs.Bodies.{Goes, IsRefused, IsRefusedByCheck, Is
 ghost use Rattle.translation.specs.Going.{Appends, AreGone, StayBack};
 ghost use Rattle.translation.specs.Header.{type_of};
 ghost use Rattle.report_translate.specs.Refusals.{IsFaultyRefusal, IsGoodRefusal};
-ghost use Rattle.translate_fix44.specs.Translation.{direction, down, up};
+ghost use Rattle.translate_fix44.specs.Translation.{direction, down_by, up};
 
 use crate::asking::good_request;
 use crate::putting::{lack_up, put_down, put_up};
@@ -78,7 +79,8 @@ fn check_request(
     }
 }
 
-/// Appends the content of FIX 4.4 of the report that stands for the fields of a body.
+/// Appends the content of FIX 4.4 of the report that stands for the fields of a body. A cancel reject
+/// (9) that does not name its order is of the original id that is known.
 ///
 /// # Errors
 ///
@@ -88,15 +90,17 @@ pub fn put_report(
     alloc: Global,
     tables: &ReportTables,
     split: &Split<'_>,
+    known: Option<&[u8]>,
     out: &mut Vec<u8>,
 ) -> Result<(), TranslateError>
-    ensures ok { OnOk result
-        (Appends down split.now.fields split.now.fault out.old.items out.new.items) }
-    ensures refused { IfErr result (StayBack down split.now.fields split.now.fault) }
+    ensures ok { OnOk result (Appends (down_by (option_map (λ id. id.now) known.entry))
+        split.now.fields split.now.fault out.old.items out.new.items) }
+    ensures refused { IfErr result (StayBack (down_by (option_map (λ id. id.now) known.entry))
+        split.now.fields split.now.fault) }
 {
     match tables.good(msg_type(&split.fields), split) {
         Err(fault) => Err(faulty(fault)),
-        Ok(fields) => match put_down(alloc, fields, out) {
+        Ok(fields) => match put_down(alloc, fields, known, out) {
             Ok(()) => Ok(()),
             Err(lack) => Err(lacking(lack)),
         },
@@ -143,7 +147,7 @@ impl<'t> Translating for Going<'t> {
     fn put(&self, split: &Split<'_>, out: &mut Vec<u8>) -> Result<(), TranslateError> {
         match self.way {
             Way::Up => put_request(self.alloc, &self.tables.requests, split, out),
-            Way::Down => put_report(self.alloc, &self.tables.reports, split, out),
+            Way::Down => put_report(self.alloc, &self.tables.reports, split, None, out),
         }
     }
 

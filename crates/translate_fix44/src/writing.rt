@@ -20,15 +20,17 @@ use std::alloc::AllocError;
 
 /// What the rules read beside the fields.
 #[derive(Drop)]
-pub(crate) struct Besides {
+pub(crate) struct Besides<'k> {
     /// The parties of the message.
     pub(crate) parties: Lines,
     /// Whether it has the terms of an order (D, G and 8), with a place for a party of role 4.
     pub(crate) has_terms: bool,
+    /// The original id that is known of the order of a cancel reject.
+    pub(crate) known: Option<&'k [u8]>,
 }
 
 /// What the rules read.
-pub(crate) type Source<'f, 'a> = rule_rows::Source<'f, 'a, Besides>;
+pub(crate) type Source<'f, 'k, 'a> = rule_rows::Source<'f, 'a, Besides<'k>>;
 
 /// What a call answers that appends: an error only for want of memory. What stood there stays.
 type Appended = Result<(), AllocError>;
@@ -44,7 +46,7 @@ fn turn(turns: Option<(u8, u8)>, code: u8) -> u8
 }
 
 /// The code at a tag, or the one that it turns to.
-fn turned(source: &Source<'_, '_>, tag: u32, turns: Option<(u8, u8)>) -> Option<u8>
+fn turned(source: &Source<'_, '_, '_>, tag: u32, turns: Option<(u8, u8)>) -> Option<u8>
     ensures { result ≡ option_map (turn turns) (coded source.now tag) }
 {
     match code_of(source.fields.value(tag)) {
@@ -54,7 +56,7 @@ fn turned(source: &Source<'_, '_>, tag: u32, turns: Option<(u8, u8)>) -> Option<
 }
 
 /// Appends HandlInst(21), which is 1 in an order that does not say it.
-fn put_hand_inst(source: &Source<'_, '_>, out: &mut Vec<u8>) -> Appended
+fn put_hand_inst(source: &Source<'_, '_, '_>, out: &mut Vec<u8>) -> Appended
     ensures done { OnOk result (out.new.items
         ≡ out.old.items ++ body_of (writes source.now rules.HandlInst)) }
     ensures kept { StartsWith out.new.items out.old.items }
@@ -69,8 +71,21 @@ fn put_hand_inst(source: &Source<'_, '_>, out: &mut Vec<u8>) -> Appended
     }
 }
 
+/// Appends OrigClOrdID(41), or else the id that is known, if there is one.
+fn put_original(source: &Source<'_, '_, '_>, out: &mut Vec<u8>) -> Appended
+    ensures done { OnOk result (out.new.items
+        ≡ out.old.items ++ body_of (writes source.now rules.Original)) }
+    ensures kept { StartsWith out.new.items out.old.items }
+{
+    match (source.fields.value(41), source.besides.known) {
+        (Some(said), _) => put_field(out, 41, said),
+        (None, Some(known)) => put_field(out, 41, known),
+        (None, None) => Ok(()),
+    }
+}
+
 /// The id of the first party of role 4, where that has a place.
-fn firm<'s>(source: &'s Source<'_, '_>) -> Option<&'s [u8]>
+fn firm<'s>(source: &'s Source<'_, '_, '_>) -> Option<&'s [u8]>
     ensures { option_map (λ id. id.now) result ≡ firm_of source.now }
 {
     if source.besides.has_terms {
@@ -107,16 +122,16 @@ fn lack_if(lacks: bool, tag: u32) -> Option<u32>
     if lacks { Some(tag) } else { None }
 }
 
-impl Lacking<Besides> for Own {
+impl<'k> Lacking<Besides<'k>> for Own {
     ghost lacks = { lacks };
 
     #[inline(always)]
-    fn lack(&self, source: &Source<'_, '_>) -> Option<u32> {
+    fn lack(&self, source: &Source<'_, 'k, '_>) -> Option<u32> {
         let fields = source.fields;
         match self {
-            Own::Original => match fields.value(41) {
-                None => Some(41),
-                Some(_) => None,
+            Own::Original => match (fields.value(41), source.besides.known) {
+                (None, None) => Some(41),
+                _ => None,
             },
             Own::Turned(tag, listed, turns) => {
                 lack_if(is_unlisted(listed, turned(source, *tag, *turns)), *tag)
@@ -131,7 +146,7 @@ impl Lacking<Besides> for Own {
 }
 
 /// Appends what a rule says that lacks nothing.
-fn say(source: &Source<'_, '_>, rule: &Own, out: &mut Vec<u8>) -> Appended
+fn say(source: &Source<'_, '_, '_>, rule: &Own, out: &mut Vec<u8>) -> Appended
     ensures done { OnOk result (out.new.items
         ≡ out.old.items ++ body_of (writes source.now rule.now)) }
     ensures kept { StartsWith out.new.items out.old.items }
@@ -140,7 +155,7 @@ fn say(source: &Source<'_, '_>, rule: &Own, out: &mut Vec<u8>) -> Appended
     match rule {
         Own::Month => put_month(out, fields),
         Own::HandlInst => put_hand_inst(source, out),
-        Own::Original => put_text(out, 41, fields.value(41)),
+        Own::Original => put_original(source, out),
         Own::Turned(tag, _, turns) => put_code_if(out, *tag, turned(source, *tag, *turns)),
         Own::AtClose => put_text(out, 59, fields.value(59)),
         Own::Parties => {
@@ -155,12 +170,12 @@ fn say(source: &Source<'_, '_>, rule: &Own, out: &mut Vec<u8>) -> Appended
     }
 }
 
-impl OwnRule<Besides> for Own {
+impl<'k> OwnRule<Besides<'k>> for Own {
     ghost writes = { writes };
 
     ghost lacks = { lacks };
 
-    fn put(&self, source: &Source<'_, '_>, out: &mut Vec<u8>) -> Result<(), Lack> {
+    fn put(&self, source: &Source<'_, 'k, '_>, out: &mut Vec<u8>) -> Result<(), Lack> {
         match self.lack(source) {
             Some(tag) => Err(Lack::Tag(tag)),
             None => Ok(say(source, self, out)?),

@@ -1,7 +1,11 @@
 use Rattle.std.proofs.Common.{option_map}
 use Rattle.std.proofs.lemmas.Result.{err_from_is_err_and}
-use Rattle.structs_fix44.proofs.Down.{copied_says, reject_down, reject_lacks, reject_stands}
+use Rattle.structs_fix44.proofs.Down.{copied_says, once_complete, reject_down, reject_lacks}
+use Rattle.structs_fix44.proofs.Down.{reject_stands}
 use Rattle.structs_fix44.proofs.downward.down_cancel_reject44.Goals as goal
+
+pub reject_body-requires-clause-sound : goal.reject_body-requires-clause-sound
+reject_body-requires-clause-sound c = once_complete c.args.msg.now c.requires.sound
 
 pub returns-in_err-content-clause-lack : goal.returns-in_err-content-clause-lack
 returns-in_err-content-clause-lack c =

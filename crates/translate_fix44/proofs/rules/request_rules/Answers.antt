@@ -4,8 +4,8 @@ use Rattle.order_meaning.specs.Request.{New}
 use Rattle.translate_fix44.proofs.rules.request_rules.Goals as goal
 
 pub returns-clause-all : goal.returns-clause-all
-returns-clause-all c New = record { are = refl; read = refl }
-returns-clause-all c kind = record { are = refl; read = refl }
+returns-clause-all c known New = record { are = refl; read = refl }
+returns-clause-all c known kind = record { are = refl; read = refl }
 
 pub returns-clause-lacking : goal.returns-clause-lacking
 unfolding first_of
