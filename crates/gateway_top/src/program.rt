@@ -101,7 +101,7 @@ On any status but 0 a line with the reason goes to standard error.
 ";
 
 /// What `--version` prints.
-const VERSION: &str = "fixgate 0.20.0\n";
+const VERSION: &str = "fixgate 0.21.0\n";
 
 /// Writes a text.
 fn write_text<O: Sink>(out: &mut O, text: &str) -> Status
