@@ -1,7 +1,7 @@
 -- A report as a struct: its content, that of an execution report without its parties, goes down by
 -- the rules behind its MsgType, and is read again.
 use Rattle.std.proofs.Common.{◌≡◌, ◌++◌, ◌∙◌, ℕ, List, [], ◌∷◌, false, true, Option, None, Ok, Err}
-use Rattle.std.proofs.Common.{Some, codes, drop, lit≤, map, refl, sym, ap, subst, take, arith}
+use Rattle.std.proofs.Common.{Some, codes, drop, lit≤, map, refl, sym, ap, subst, take}
 use Rattle.std.specs.Prelude.{IfSome, Result}
 use Rattle.field_groups.specs.Data.{is_data_tag}
 use Rattle.field_groups.specs.declared.fault.SplitFault.{SplitFault}
@@ -11,7 +11,6 @@ use Rattle.message_tables.specs.Content.{content}
 use Rattle.message_tables.specs.FirstFault.{message_of}
 use Rattle.message_tables.specs.Tables.{Item, Message, Role, Said, Table}
 use Rattle.message_tables.specs.Tables.{first_of}
-use Rattle.value_kinds.specs.ValueKind.{spelling}
 use Rattle.row_values.specs.Kinds.{Kind, judge}
 use Rattle.row_values.specs.Lines.{party_cells}
 use Rattle.order_meaning.specs.declared.fault.Lack.{Lack}
@@ -32,7 +31,6 @@ use Rattle.reports_fix50.specs.declared.reports.Report50.{Report50}
 use Rattle.sound_laws.specs.Complete.{IsComplete}
 use Rattle.sound_laws.specs.Sound.{without_resend}
 use Rattle.sound_laws.proofs.Completed.{completed_again}
-use Rattle.sound_laws.proofs.Each.{◌&◌}
 use Rattle.sound_laws.proofs.Lookups.{places_apart}
 use Rattle.sound_laws.proofs.PlainFields.{AreFew, few_of, times}
 use Rattle.sound_laws.proofs.RowsSaid.{optional_said}
@@ -42,7 +40,7 @@ use Rattle.rule_rows.specs.ByRules.{by_rules, lack_by, or_lack}
 use Rattle.rule_rows.specs.Rules.{By}
 use Rattle.report_rules.specs.Down.{IsId, Rejects50, Reports50}
 use Rattle.report_rules.proofs.SenseDown.{not_lacking}
-use Rattle.translation.specs.Going.{Appends, One}
+use Rattle.translation.specs.Going.{Appends}
 use Rattle.translation.proofs.BehindHeader.{IsHead, front, items_behind, read_behind, whole}
 use Rattle.translation.proofs.CarriedHeader.{head_value, own_said}
 use Rattle.report_translate.specs.Reading.{report_message}
@@ -57,7 +55,7 @@ use Rattle.translate_fix44.proofs.Go as go
 use Rattle.translate_fix44.proofs.Go.{go_down, reject_goes_down, report_goes_down}
 use Rattle.structs_fix44.specs.Down.{IsDown, Says, with_parties}
 use Rattle.structs_fix44.specs.Up.{IsLackOf}
-use Rattle.structs_fix44.proofs.Typed.{IsTyped, behind_type, puts, same_lack, typed}
+use Rattle.structs_fix44.proofs.Typed.{IsTyped, behind_type, puts, same_lack, typed, typed_as}
 
 -- ---- a content of FIX 5.0 SP2 behind its MsgType
 
@@ -129,14 +127,6 @@ lack_of same (reasons.Tag tag) h = same tag h
 
 -- ---- an execution report
 
-typed_8 : IsTyped 56
-unfolding spelling
-typed_8 = record {
-  own = record { kind = (refl, refl); carried = tt & tt & tt & tt & tt & tt & tt & tt };
-  type = One 56 (λ no. absurd (omega (arith, no))) refl;
-  clear = λ h. refl;
-}
-
 -- the parties that have a place are those of the lines that were made of them
 three_again : (a b c : Said)
     → three_of (parties_of (record { client = a; broker = b; firm = c }))
@@ -162,8 +152,8 @@ module _ (msg : Report50) (c : IsComplete report_table (report_says msg)) where
     fields = typed 56 ++ content report_table b;
     bytes = wrote ∙ ap (λ (x : List ℕ). x ++ body_of (content report_table b)) (put
         ∙ ap (λ (x : List ℕ). x ++ field_bytes (35, codes "8")) empty);
-    again = behind_type 56 typed_8 (content report_table b) (few msg c);
-    reads = reads_typed 56 execution_report b typed_8 refl refl (bare_complete msg c) refl;
+    again = behind_type 56 (typed_as 56 refl) (content report_table b) (few msg c);
+    reads = reads_typed 56 execution_report b (typed_as 56 refl) refl refl (bare_complete msg c) refl;
   }
 
   pub report_lacks : (lack : Lack) → IsLackOf (down_message None b) lack
@@ -216,14 +206,6 @@ module _ (msg : Report50) (c : IsComplete report_table (report_says msg)) where
 
 -- ---- a cancel reject
 
-typed_9 : IsTyped 57
-unfolding spelling
-typed_9 = record {
-  own = record { kind = (refl, refl); carried = tt & tt & tt & tt & tt & tt & tt & tt };
-  type = One 57 (λ no. absurd (omega (arith, no))) refl;
-  clear = λ h. refl;
-}
-
 -- a cancel reject as a body
 module _ (msg : CancelReject50) where
   abbrev once_said : Message
@@ -245,9 +227,9 @@ module _ (msg : CancelReject50) where
         fields = typed 57 ++ own;
         bytes = wrote ∙ ap (λ (x : List ℕ). x ++ body_of own) (put
             ∙ ap (λ (x : List ℕ). x ++ field_bytes (35, codes "9")) empty);
-        again = behind_type 57 typed_9 own
+        again = behind_type 57 (typed_as 57 refl) own
             (few_of judge cancel_reject_table once_said refl (lit≤ tt) c.sound);
-        reads = reads_typed 57 cancel_reject once_said typed_9 refl refl c refl;
+        reads = reads_typed 57 cancel_reject once_said (typed_as 57 refl) refl refl c refl;
       }
 
 module _ (known : Said) (msg : CancelReject50) (id : IfSome known IsId)

@@ -1,7 +1,7 @@
 -- A request or report as a struct: its content is split and read again behind its MsgType, and what
 -- is known of these fields is so of what the struct says.
 use Rattle.std.proofs.Common.{◌≡◌, ◌++◌, ◌∙◌, ℕ, List, [], ◌∷◌, Bool, false, true, Option, None}
-use Rattle.std.proofs.Common.{Ok, Err, Some, refl, sym, ap, subst, arith}
+use Rattle.std.proofs.Common.{Ok, Err, Some, refl, sym, ap, subst, arith, ◌==◌, ◌||◌}
 use Rattle.field_groups.specs.Data.{is_data_tag}
 use Rattle.field_groups.specs.declared.fault.SplitFault.{SplitFault}
 use Rattle.field_groups.specs.Field.{Field, body_of, field_bytes}
@@ -25,7 +25,7 @@ use Rattle.requests_fix44.specs.Said.{says}
 use Rattle.requests_fix44.specs.declared.requests.Msg44.{Msg44}
 use Rattle.requests_fix44.specs.declared.requests.Msg44.TheVariants as messages
 use Rattle.sound_laws.specs.Complete.{IsComplete}
-use Rattle.sound_laws.specs.Sound.{without_resend}
+use Rattle.sound_laws.specs.Sound.{IsClear, without_resend}
 use Rattle.sound_laws.proofs.Completed.{completed_again}
 use Rattle.sound_laws.proofs.Each.{◌&◌}
 use Rattle.sound_laws.proofs.Lookups.{places_apart}
@@ -61,6 +61,15 @@ pub record IsTyped (letter : ℕ) : Type 0 where
   pub own : IsOwnHead (letter ∷ []) (typed letter)
   pub type : IsType (letter ∷ [])
   pub clear : (IsClearField judge) (35, letter ∷ [])
+
+pub typed_as : (letter : ℕ) → IsClear (letter ∷ []) → IsTyped letter
+unfolding spelling
+typed_as letter clear = record {
+  own = record { kind = (refl, clear); carried = tt & tt & tt & tt & tt & tt & tt & tt };
+  type = One letter (λ is. absurd (let no = sym (ap (λ (n : ℕ). n == 1 || false) is) ∙ clear in
+      cc)) refl;
+  clear = λ h. clear;
+}
 
 module _ (letter : ℕ) (is : IsTyped letter) (written : List Field) (few : AreFew written) where
   pub behind_type : SplitsInto (body_of (typed letter ++ written)) (typed letter ++ written) None
@@ -114,27 +123,10 @@ module _ {d : Direction} {body : List ℕ} {m : Message} (said : Says d body m) 
 -- ---- a request
 
 is_typed : (msg : Msg44) → IsTyped (says msg).letter
-unfolding spelling
-is_typed (messages.New m) = record {
-  own = record { kind = (refl, refl); carried = tt & tt & tt & tt & tt & tt & tt & tt };
-  type = One 68 (λ no. absurd (omega (arith, no))) refl;
-  clear = λ h. refl;
-}
-is_typed (messages.Cancel m) = record {
-  own = record { kind = (refl, refl); carried = tt & tt & tt & tt & tt & tt & tt & tt };
-  type = One 70 (λ no. absurd (omega (arith, no))) refl;
-  clear = λ h. refl;
-}
-is_typed (messages.Replace m) = record {
-  own = record { kind = (refl, refl); carried = tt & tt & tt & tt & tt & tt & tt & tt };
-  type = One 71 (λ no. absurd (omega (arith, no))) refl;
-  clear = λ h. refl;
-}
-is_typed (messages.Status m) = record {
-  own = record { kind = (refl, refl); carried = tt & tt & tt & tt & tt & tt & tt & tt };
-  type = One 72 (λ no. absurd (omega (arith, no))) refl;
-  clear = λ h. refl;
-}
+is_typed (messages.New m) = typed_as 68 refl
+is_typed (messages.Cancel m) = typed_as 70 refl
+is_typed (messages.Replace m) = typed_as 71 refl
+is_typed (messages.Status m) = typed_as 72 refl
 
 few44 : (msg : Msg44) → IsSound44 msg → AreFew (content44 msg)
 unfolding is_data_tag times
